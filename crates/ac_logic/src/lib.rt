@@ -1,0 +1,10 @@
+//! The ground floor of logic: formulas that share their parts, their meaning and their text.
+#![tactic(auto, unfolding(crate::specs::Opened::formula_shape, crate::specs::Opened::formula_child, crate::specs::Opened::term_shape, crate::specs::Opened::term_child, crate::specs::Opened::array_shape, crate::specs::Opened::array_child, crate::specs::Opened::hidden))]
+
+mod condition;
+mod formula;
+mod label;
+
+pub use condition::{Annotation, Condition};
+pub use formula::{ArrayTerm, Change, Formula, Sym, Term};
+pub use label::{Label, LabelKind};
