@@ -1,0 +1,2 @@
+pub mod TokenFaults
+pub mod Pieces

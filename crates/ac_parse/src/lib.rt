@@ -1,0 +1,6 @@
+//! The text of a program: how it is cut into tokens.
+#![tactic(auto)]
+
+mod tokens;
+
+pub use tokens::{TokenFault, tokenize, utf8_text};
