@@ -1,5 +1,5 @@
 -- Which texts are cut into tokens within the limits, and where another text is refused.
-use Rattle.std.specs.Prelude.{◌≡◌, ℕ, ◌≤◌, ◌<◌, List, [], ◌∷◌, length, All}
+use Rattle.std.specs.Prelude.{◌≡◌, ℕ, ◌≤◌, ◌<◌, List, [], ◌∷◌, length}
 use Rattle.ac_tree.specs.declared.token.Mark.{Mark}
 use Rattle.ac_tree.specs.declared.token.Mark.TheVariants as mark
 use Rattle.ac_tree.specs.declared.token.Token.{Token}
@@ -8,13 +8,14 @@ use Rattle.ac_parse.specs.declared.tokens.TokenFault.{TokenFault}
 use Rattle.ac_parse.specs.declared.tokens.TokenFault.TheVariants as fault
 
 -- a literal is at most 10^12, and a name has at most 32 bytes
-abbrev pub MarksWithinLimits : Mark → Type 0
-MarksWithinLimits (mark.Literal n) = n ≤ 1000000000000
-MarksWithinLimits (mark.Name name) = length name ≤ 32
-MarksWithinLimits _ = Unit {0}
+abbrev pub IsWithinLimits : Mark → Type 0
+IsWithinLimits (mark.Literal n) = n ≤ 1000000000000
+IsWithinLimits (mark.Name name) = length name ≤ 32
+IsWithinLimits _ = Unit {0}
 
 abbrev pub AreWithinLimits : List Token → Type 0
-AreWithinLimits tokens = All (λ t. MarksWithinLimits t.mark) tokens
+AreWithinLimits [] = Unit {0}
+AreWithinLimits (t ∷ tokens) = IsWithinLimits t.mark × AreWithinLimits tokens
 
 -- the whole text is cut into these tokens, which are within the limits
 pub record IsTokenized (bytes : List ℕ) (tokens : List Token) : Type 0 where

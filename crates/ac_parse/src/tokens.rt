@@ -1,7 +1,9 @@
-ghost use Rattle.std.specs.Prelude.{◌≡◌, ℕ, ◌+◌, ◌*◌, ◌-◌, ◌^◌, ◌<◌, ◌≤◌, ◌↔◌, List, [], ◌∷◌, length, take, drop, slice_index, IsTrue, IfOk, IfErr, IsUtf8, IsAscii, MatchOption, Some, None};
+ghost use Rattle.std.specs.Prelude.{◌≡◌, ℕ, ◌+◌, ◌*◌, ◌-◌, ◌^◌, ◌<◌, ◌≤◌, ◌↔◌, List, [], ◌∷◌, ◌++◌, length, take, drop, slice_index, IsTrue, IfOk, IfErr, OnOk, IsUtf8, IsAscii, MatchOption, Some, None};
 ghost use Rattle.std.specs.Str.{IsValidUpTo};
+ghost use Rattle.std.specs.Option.{option_to_list};
 ghost use Rattle.ac_tree.specs.declared.token.ByteKind.TheVariants.{Letter, Digit, Hash};
 ghost use Rattle.ac_tree.specs.Tokens.{kind_of, number_of, Each, InNumber, token};
+ghost use Rattle.ac_parse.specs.declared.tokens.TokenFault.TheVariants.{OutOfMemory};
 ghost use Rattle.ac_parse.specs.TokenFaults.{IsTokenized, IsFirstFault, FaultsAt};
 ghost use Rattle.ac_parse.specs.Pieces.{GoesOn, IsRun, IsNoWord, joined_with, IsPiece};
 
@@ -83,12 +85,20 @@ pub fn tokenize(alloc: Global, text: &str) -> Result<Vec<Token>, TokenFault>
     let mut at = 0;
     while at < bytes.len() {
         let piece = piece_at(alloc, bytes, at)?;
-        if let Some(token) = piece.token {
-            tokens.push(token)?;
-        }
         at = piece.end;
+        push_token(&mut tokens, piece.token)?;
     }
     Ok(tokens)
+}
+
+fn push_token(tokens: &mut Vec<Token>, token: Option<Token>) -> Result<(), TokenFault>
+    ensures pushed { OnOk result (tokens.new.items ≡ tokens.old.items ++ option_to_list token) }
+    ensures full { IfErr result (λ fault. fault ≡ OutOfMemory) }
+{
+    if let Some(token) = token {
+        tokens.push(token)?;
+    }
+    Ok(())
 }
 
 /// The longest piece at a place.

@@ -1,0 +1,3 @@
+pub mod ByteKinds
+pub mod Runs
+pub mod Placed
