@@ -26,9 +26,10 @@ digit_in_number _ f = absurd (cc)
 
 pub name_ascii : (b : ℕ) → InName (kind_of b) → b < 128
 name_ascii b f =
-    elim (cases_lt b 128)
-      [ inl h ↦ h
-      | inr h ↦ absurd (subst (λ k. InName k) (high_is_other b h) f) ]
+    elim (cases_lt b 128) [
+      | inl h ↦ h
+      | inr h ↦ absurd (subst (λ k. InName k) (high_is_other b h) f)
+    ]
 
 pub names_ascii : (bytes : List ℕ) → Each InName bytes → IsAscii bytes
 names_ascii [] f = IsAscii-nil

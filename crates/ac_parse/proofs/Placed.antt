@@ -4,11 +4,12 @@ use Rattle.std.specs.Option.{option_to_list}
 use Rattle.std.proofs.lemmas.List.{take-append-drop, drop-drop, drop_more, length-take-le, length-drop}
 use Rattle.ac_tree.specs.declared.token.ByteKind.{ByteKind}
 use Rattle.ac_tree.specs.declared.token.ByteKind.TheVariants.{Newline, Blank, Letter, Digit, Underscore, Hash, At, Dot, Lone, Other}
+use Rattle.ac_tree.specs.declared.token.Keyword.{Keyword}
 use Rattle.ac_tree.specs.declared.token.Sign.{Sign}
 use Rattle.ac_tree.specs.declared.token.Mark.{Mark}
 use Rattle.ac_tree.specs.declared.token.Mark.TheVariants as mark
 use Rattle.ac_tree.specs.declared.token.Token.{Token}
-use Rattle.ac_tree.specs.Tokens.{kind_of, joined, InName, InNumber, InLine, IsBlank, Each, Ends, StandsAlone, word_mark, number_of, token, Cut, nothing, blank, comment, word, literal, lone_sign, joined_sign, IsStray, IsFault, BeginsWithDigit}
+use Rattle.ac_tree.specs.Tokens.{kind_of, joined, InName, InNumber, InLine, IsBlank, Each, Ends, StandsAlone, marked, word_mark, keyword_of, number_of, token, Cut, nothing, blank, comment, word, literal, lone_sign, joined_sign, IsStray, IsFault, BeginsWithDigit}
 use Rattle.ac_parse.specs.declared.tokens.Piece.{Piece}
 use Rattle.ac_parse.specs.TokenFaults.{AreWithinLimits}
 use Rattle.ac_parse.specs.Pieces.{IsRun, joined_with, IsNoWord, IsPiece}
@@ -31,8 +32,8 @@ run_stands P bytes at to h r =
     let n : at + 1 + (to - (at + 1)) ≡ to = omega arith in
     drop_more bytes at 0 h
     ∙ ap (λ x. get_or bytes at 0 ∷ x)
-        (sym (take-append-drop (to - (at + 1)) (drop (at + 1) bytes))
-        ∙ ap (λ x. take (to - (at + 1)) (drop (at + 1) bytes) ++ x) (drop-drop (to - (at + 1)) (at + 1) bytes ∙ ap (λ k. drop k bytes) n))
+    (sym (take-append-drop (to - (at + 1)) (drop (at + 1) bytes))
+    ∙ ap (λ x. take (to - (at + 1)) (drop (at + 1) bytes) ++ x) (drop-drop (to - (at + 1)) (at + 1) bytes ∙ ap (λ k. drop k bytes) n))
 
 run_length : (P : ByteKind → Type 0) (bytes : List ℕ) (at to : ℕ) → IsRun P bytes (at + 1) to → at + 1 + length (take (to - (at + 1)) (drop (at + 1) bytes)) ≡ to
 run_length P bytes at to r =
@@ -55,17 +56,17 @@ pub comment_cut : (bytes : List ℕ) (at to : ℕ) → at < length bytes → kin
 comment_cut bytes at to h f r =
     let line = take (to - (at + 1)) (drop (at + 1) bytes) in
     subst (λ x. Cut at x [] to (drop to bytes)) (sym (run_stands InLine bytes at to h r))
-      (subst (λ n. Cut at (get_or bytes at 0 ∷ (line ++ drop to bytes)) [] n (drop to bytes)) (run_length InLine bytes at to r)
-        (comment line f r.each r.ends nothing))
+    (subst (λ n. Cut at (get_or bytes at 0 ∷ (line ++ drop to bytes)) [] n (drop to bytes)) (run_length InLine bytes at to r)
+    (comment line f r.each r.ends nothing))
 
 pub word_cut : (bytes : List ℕ) (at to : ℕ) → at < length bytes → kind_of (get_or bytes at 0) ≡ Letter → IsRun InName bytes (at + 1) to →
     Cut at (drop at bytes) (token (word_mark (take (to - at) (drop at bytes))) at to ∷ []) to (drop to bytes)
 word_cut bytes at to h f r =
     let more = take (to - (at + 1)) (drop (at + 1) bytes) in
     subst (λ w. Cut at (drop at bytes) (token (word_mark w) at to ∷ []) to (drop to bytes)) (sym (run_text InName bytes at to h r))
-      (subst (λ x. Cut at x (token (word_mark (get_or bytes at 0 ∷ more)) at to ∷ []) to (drop to bytes)) (sym (run_stands InName bytes at to h r))
-        (subst (λ n. Cut at (get_or bytes at 0 ∷ (more ++ drop to bytes)) (token (word_mark (get_or bytes at 0 ∷ more)) at n ∷ []) n (drop to bytes)) (run_length InName bytes at to r)
-          (word more f r.each r.ends nothing)))
+    (subst (λ x. Cut at x (token (word_mark (get_or bytes at 0 ∷ more)) at to ∷ []) to (drop to bytes)) (sym (run_stands InName bytes at to h r))
+    (subst (λ n. Cut at (get_or bytes at 0 ∷ (more ++ drop to bytes)) (token (word_mark (get_or bytes at 0 ∷ more)) at n ∷ []) n (drop to bytes)) (run_length InName bytes at to r)
+    (word more f r.each r.ends nothing)))
 
 pub literal_cut : (bytes : List ℕ) (at to : ℕ) → at < length bytes → kind_of (get_or bytes at 0) ≡ Digit → IsRun InNumber bytes (at + 1) to → (get_or bytes at 0 ≡ 48 → to ≤ at + 1) →
     Cut at (drop at bytes) (token (mark.Literal (number_of (take (to - at) (drop at bytes)))) at to ∷ []) to (drop to bytes)
@@ -73,9 +74,9 @@ literal_cut bytes at to h f r z =
     let more = take (to - (at + 1)) (drop (at + 1) bytes) in
     let none : get_or bytes at 0 ≡ 48 → more ≡ [] = λ e. let k : to ≤ at + 1 = z e in let n : to - (at + 1) ≡ 0 = omega arith in ap (λ n. take n (drop (at + 1) bytes)) n in
     subst (λ w. Cut at (drop at bytes) (token (mark.Literal (number_of w)) at to ∷ []) to (drop to bytes)) (sym (run_text InNumber bytes at to h r))
-      (subst (λ x. Cut at x (token (mark.Literal (number_of (get_or bytes at 0 ∷ more))) at to ∷ []) to (drop to bytes)) (sym (run_stands InNumber bytes at to h r))
-        (subst (λ n. Cut at (get_or bytes at 0 ∷ (more ++ drop to bytes)) (token (mark.Literal (number_of (get_or bytes at 0 ∷ more))) at n ∷ []) n (drop to bytes)) (run_length InNumber bytes at to r)
-          (literal more f r.each r.ends none nothing)))
+    (subst (λ x. Cut at x (token (mark.Literal (number_of (get_or bytes at 0 ∷ more))) at to ∷ []) to (drop to bytes)) (sym (run_stands InNumber bytes at to h r))
+    (subst (λ n. Cut at (get_or bytes at 0 ∷ (more ++ drop to bytes)) (token (mark.Literal (number_of (get_or bytes at 0 ∷ more))) at n ∷ []) n (drop to bytes)) (run_length InNumber bytes at to r)
+    (literal more f r.each r.ends none nothing)))
 
 stands_alone : (k : ByteKind) (rest : List ℕ) → joined_with k rest ≡ None → StandsAlone k rest
 stands_alone k [] e = tt
@@ -85,7 +86,7 @@ pub lone_cut : (bytes : List ℕ) (at : ℕ) (s : Sign) → at < length bytes �
     Cut at (drop at bytes) (token (mark.Sign s) at (at + 1) ∷ []) (at + 1) (drop (at + 1) bytes)
 lone_cut bytes at s h f g =
     subst (λ x. Cut at x (token (mark.Sign s) at (at + 1) ∷ []) (at + 1) (drop (at + 1) bytes)) (sym (drop_more bytes at 0 h))
-      (lone_sign s f (stands_alone (Lone s) (drop (at + 1) bytes) g) nothing)
+    (lone_sign s f (stands_alone (Lone s) (drop (at + 1) bytes) g) nothing)
 
 joined_next : (at b : ℕ) (s : Sign) (rest : List ℕ) → joined_with (kind_of b) rest ≡ Some s →
     Cut at (b ∷ rest) (token (mark.Sign s) at (at + 2) ∷ []) (at + 2) (drop 1 rest)
@@ -105,8 +106,8 @@ joined_cut bytes at s h e =
     let n : at + 1 + 1 ≡ at + 2 = omega arith in
     let d : drop 1 (drop (at + 1) bytes) ≡ drop (at + 2) bytes = drop-drop 1 (at + 1) bytes ∙ ap (λ k. drop k bytes) n in
     subst (λ x. Cut at x (token (mark.Sign s) at (at + 2) ∷ []) (at + 2) (drop (at + 2) bytes)) (sym (drop_more bytes at 0 h))
-      (subst (λ y. Cut at (get_or bytes at 0 ∷ drop (at + 1) bytes) (token (mark.Sign s) at (at + 2) ∷ []) (at + 2) y) d
-        (joined_next at (get_or bytes at 0) s (drop (at + 1) bytes) e))
+    (subst (λ y. Cut at (get_or bytes at 0 ∷ drop (at + 1) bytes) (token (mark.Sign s) at (at + 2) ∷ []) (at + 2) y) d
+    (joined_next at (get_or bytes at 0) s (drop (at + 1) bytes) e))
 
 stray : (k : ByteKind) (rest : List ℕ) → IsNoWord k → joined_with k rest ≡ None → ((s : Sign) → k ≡ Lone s → ⊥) → IsStray k rest
 stray Underscore rest f g h = tt
@@ -155,4 +156,31 @@ token_piece_is bytes at to t p e n cut ahead inside within = record {
   cut = subst (λ o. Cut at (drop at bytes) (option_to_list o) p.end (drop p.end bytes)) (sym e) (subst (λ m. Cut at (drop at bytes) (t ∷ []) m (drop m bytes)) (sym n) cut);
   ahead = subst (λ m. at < m) (sym n) ahead;
   inside = subst (λ m. m ≤ length bytes) (sym n) inside;
-  within = subst (λ o. AreWithinLimits (option_to_list o)) (sym e) within }
+  within = subst (λ o. AreWithinLimits (option_to_list o)) (sym e) within;
+}
+
+pub word_cut_as : (bytes : List ℕ) (at to : ℕ) (w : List ℕ) (o : Option Keyword) → at < length bytes → kind_of (get_or bytes at 0) ≡ Letter → IsRun InName bytes (at + 1) to →
+    w ≡ take (to - at) (drop at bytes) → o ≡ keyword_of w → Cut at (drop at bytes) (token (marked w o) at to ∷ []) to (drop to bytes)
+word_cut_as bytes at to w o h f r e k =
+    subst (λ p. Cut at (drop at bytes) (token (marked w p) at to ∷ []) to (drop to bytes)) (sym k)
+    (subst (λ x. Cut at (drop at bytes) (token (word_mark x) at to ∷ []) to (drop to bytes)) (sym e) (word_cut bytes at to h f r))
+
+pub within_joined : (ts us : List Token) → AreWithinLimits ts → AreWithinLimits us → AreWithinLimits (ts ++ us)
+within_joined [] us f g = g
+within_joined (t ∷ ts) us f g = (f.0, within_joined ts us f.1 g)
+
+blank_kind : (k : ByteKind) → (k ≡ Blank) ⊎ (k ≡ Newline) → IsBlank k
+blank_kind Blank f = tt
+blank_kind Newline f = tt
+blank_kind _ f = absurd (elim f [ inl e ↦ cc | inr e ↦ cc ])
+
+pub blank_piece : (bytes : List ℕ) (at : ℕ) (k : ByteKind) (p : Piece) → at < length bytes → k ≡ kind_of (get_or bytes at 0) → (k ≡ Blank) ⊎ (k ≡ Newline) →
+    p ≡ record { token = None; end = at + 1 } → IsPiece bytes at p
+blank_piece bytes at k p h e f g =
+    let all : IsPiece bytes at (record { token = None; end = at + 1 }) = record {
+      cut = blank_cut bytes at h (subst (λ k. IsBlank k) e (blank_kind k f));
+      ahead = omega arith;
+      inside = omega arith;
+      within = tt;
+    } in
+    subst (λ q. IsPiece bytes at q) (sym g) all

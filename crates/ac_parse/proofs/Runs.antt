@@ -21,7 +21,7 @@ number_grows n (d ∷ digits) = omega (arith, number_grows (n * 10 + (d - 48)) d
 pub number_front : (digits : List ℕ) (i : ℕ) → number_of (take i digits) ≤ number_of digits
 number_front digits i =
     let e : number_of (take i digits ++ drop i digits) ≡ fold (λ n d. n * 10 + (d - 48)) (number_of (take i digits)) (drop i digits)
-          = fold-append (λ n d. n * 10 + (d - 48)) 0 (take i digits) (drop i digits) in
+    = fold-append (λ n d. n * 10 + (d - 48)) 0 (take i digits) (drop i digits) in
     let f = ap number_of (take-append-drop i digits) in
     omega (arith, number_grows (number_of (take i digits)) (drop i digits))
 
@@ -33,4 +33,4 @@ run_more P bytes from to h k f g =
     let i : to - from < length (drop from bytes) = omega (arith, length-drop from bytes) in
     let at : get_or bytes to 0 ≡ get_or (drop from bytes) (to - from) 0 = sym (get_or-drop from bytes (to - from) 0 ∙ ap (λ j. get_or bytes j 0) m) in
     subst (λ j. Each P (take j (drop from bytes))) n
-      (each_more P (drop from bytes) (to - from) i f (subst (λ b. P (kind_of b)) at g))
+    (each_more P (drop from bytes) (to - from) i f (subst (λ b. P (kind_of b)) at g))

@@ -30,6 +30,7 @@ pub enum TokenFault {
 impl From<AllocError> for TokenFault {
     ghost use Rattle.std.specs.Prelude.{◌≡◌};
     ghost use Rattle.ac_parse.specs.declared.tokens.TokenFault.TheVariants.{OutOfMemory};
+
     ghost from_gives = { λ _ e. e ≡ OutOfMemory };
 
     fn from(_error: AllocError) -> TokenFault {
@@ -40,6 +41,7 @@ impl From<AllocError> for TokenFault {
 impl<T: Drop> From<AllocFailed<T>> for TokenFault {
     ghost use Rattle.std.specs.Prelude.{◌≡◌};
     ghost use Rattle.ac_parse.specs.declared.tokens.TokenFault.TheVariants.{OutOfMemory};
+
     ghost from_gives = { λ _ e. e ≡ OutOfMemory };
 
     fn from(_error: AllocFailed<T>) -> TokenFault {

@@ -9,4 +9,5 @@ returns c =
       cut = comment_cut c.args.bytes.now c.args.at c.run_end-end.result c.requires.within c.requires.hash c.run_end-end.ensures;
       ahead = omega arith;
       inside = c.run_end-end.ensures.inside;
-      within = tt }
+      within = tt;
+    }
