@@ -1,11 +1,11 @@
 -- What the kind of a byte says of the byte.
-use Rattle.std.proofs.Common.{refl, subst, zero, suc, ◌≡◌, ℕ, ◌+◌, ◌≤◌, ◌<◌, List, [], ◌∷◌, length, get_or, arith, inl, inr, ap, sym, ◌∙◌}
+use Rattle.std.proofs.Common.{refl, subst, zero, suc, ◌≡◌, ℕ, ◌≤◌, ◌<◌, List, [], ◌∷◌, length, get_or, arith, inl, inr}
 use Rattle.std.specs.Str.{IsAscii}
 use Rattle.std.proofs.lemmas.Bool.{cases_lt}
 use Rattle.std.proofs.lemmas.Bool.Decides.{nat_tests}
 use Rattle.std.proofs.lemmas.Str.Ascii.{IsAscii-nil, IsAscii-cons}
 use Rattle.ac_tree.specs.declared.token.ByteKind.{ByteKind}
-use Rattle.ac_tree.specs.declared.token.ByteKind.TheVariants.{Newline, Blank, Letter, Digit, Underscore, Hash, At, Dot, Lone, Other}
+use Rattle.ac_tree.specs.declared.token.ByteKind.TheVariants.{Digit, Other}
 use Rattle.ac_tree.specs.Tokens.{kind_of, InName, InNumber, Each}
 
 pub high_is_other : (b : ℕ) → 128 ≤ b → kind_of b ≡ Other

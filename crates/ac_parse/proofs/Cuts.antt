@@ -1,14 +1,13 @@
 -- What is cut so is scanned so: bytes are cut in one way at most.
-use Rattle.std.proofs.Common.{◌≡◌, ℕ, ◌+◌, List, [], ◌∷◌, ◌++◌, length, Option, Some, None, Result, Ok, Err, refl, sym, ◌∙◌, ap, append_assoc, append-nil, arith, inl, inr, nat_eq, Bool, true, false, if◌then◌else◌}
+use Rattle.std.proofs.Common.{◌≡◌, ℕ, ◌+◌, List, [], ◌∷◌, ◌++◌, length, Some, Result, Ok, Err, refl, sym, ◌∙◌, ap, append_assoc, append-nil, arith, nat_eq, Bool, false, if◌then◌else◌}
 use Rattle.std.proofs.lemmas.Bool.Decides.{nat_tests}
 use Rattle.ac_tree.specs.declared.token.ByteKind.{ByteKind}
-use Rattle.ac_tree.specs.declared.token.ByteKind.TheVariants.{Newline, Blank, Letter, Digit, Underscore, Hash, At, Dot, Lone, Other}
+use Rattle.ac_tree.specs.declared.token.ByteKind.TheVariants.{Newline, Blank, Letter, Digit, Underscore, Dot, Lone}
 use Rattle.ac_tree.specs.declared.token.Sign.{Sign}
-use Rattle.ac_tree.specs.declared.token.Sign.TheVariants as sign
 use Rattle.ac_tree.specs.declared.token.Token.{Token}
 use Rattle.ac_tree.specs.Tokens.{kind_of, joined, IsBlank, InName, InNumber, InLine, Each, Ends, StandsAlone, IsStray, BeginsWithDigit, IsFault, token, Cut, IsCutInto}
 use Rattle.ac_tree.specs.Tokens as cut
-use Rattle.ac_parse.proofs.Scan.{State, Between, InComment, InWord, InDigits, AfterSign, Turn, word_token, number_token, sign_token, begin, behind, in_word, in_digits, more_digits, in_comment, alone, with_next, turned, last, last_sign, before, scan}
+use Rattle.ac_parse.proofs.Scan.{Between, InComment, InWord, InDigits, AfterSign, Turn, word_token, number_token, sign_token, begin, behind, in_word, in_digits, in_comment, with_next, before, scan}
 
 abbrev go_on : Turn → ℕ → List ℕ → Result (List Token) ℕ
 go_on m at bytes = elim m [ Err e ↦ Err e | Ok m ↦ before m.0 (scan m.1 (at + 1) bytes) ]

@@ -1,15 +1,14 @@
 -- What stands at a place of a text, as a cut of one piece.
-use Rattle.std.proofs.Common.{◌≡◌, ℕ, ◌+◌, ◌*◌, ◌-◌, ◌≤◌, ◌<◌, List, [], ◌∷◌, ◌++◌, length, get_or, take, drop, arith, refl, subst, zero, suc, ap, sym, ◌∙◌, Option, Some, None, inl, inr, ◌⊎◌}
+use Rattle.std.proofs.Common.{◌≡◌, ℕ, ◌+◌, ◌-◌, ◌≤◌, ◌<◌, List, [], ◌∷◌, ◌++◌, length, get_or, take, drop, arith, refl, subst, zero, suc, ap, sym, ◌∙◌, Option, Some, None, inl, inr, ◌⊎◌}
 use Rattle.std.specs.Option.{option_to_list}
 use Rattle.std.proofs.lemmas.List.{take-append-drop, drop-drop, drop_more, length-take-le, length-drop}
 use Rattle.ac_tree.specs.declared.token.ByteKind.{ByteKind}
 use Rattle.ac_tree.specs.declared.token.ByteKind.TheVariants.{Newline, Blank, Letter, Digit, Underscore, Hash, At, Dot, Lone, Other}
 use Rattle.ac_tree.specs.declared.token.Keyword.{Keyword}
 use Rattle.ac_tree.specs.declared.token.Sign.{Sign}
-use Rattle.ac_tree.specs.declared.token.Mark.{Mark}
 use Rattle.ac_tree.specs.declared.token.Mark.TheVariants as mark
 use Rattle.ac_tree.specs.declared.token.Token.{Token}
-use Rattle.ac_tree.specs.Tokens.{kind_of, joined, InName, InNumber, InLine, IsBlank, Each, Ends, StandsAlone, marked, word_mark, keyword_of, number_of, token, Cut, nothing, blank, comment, word, literal, lone_sign, joined_sign, IsStray, IsFault, BeginsWithDigit}
+use Rattle.ac_tree.specs.Tokens.{kind_of, InName, InNumber, InLine, IsBlank, Each, StandsAlone, marked, word_mark, keyword_of, number_of, token, Cut, nothing, blank, comment, word, literal, lone_sign, joined_sign, IsStray, IsFault, BeginsWithDigit}
 use Rattle.ac_parse.specs.declared.tokens.Piece.{Piece}
 use Rattle.ac_parse.specs.TokenFaults.{AreWithinLimits}
 use Rattle.ac_parse.specs.Pieces.{IsRun, joined_with, IsNoWord, IsPiece}

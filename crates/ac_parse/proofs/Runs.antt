@@ -1,10 +1,10 @@
 -- The bytes of one kind, step by step, and the number that digits write.
-use Rattle.std.proofs.Common.{◌≡◌, ℕ, ◌+◌, ◌*◌, ◌-◌, ◌≤◌, ◌<◌, List, [], ◌∷◌, ◌++◌, length, get_or, take, drop, arith, refl, subst, zero, suc, ap, sym, ◌∙◌}
+use Rattle.std.proofs.Common.{◌≡◌, ℕ, ◌+◌, ◌*◌, ◌-◌, ◌≤◌, ◌<◌, List, [], ◌∷◌, ◌++◌, length, get_or, take, drop, arith, subst, zero, suc, ap, sym, ◌∙◌}
 use Rattle.std.specs.List.{fold}
 use Rattle.std.proofs.lemmas.List.{take-append-drop, length-drop, get_or-drop}
 use Rattle.std.proofs.lemmas.List.Sums.{fold_more, fold-append}
 use Rattle.ac_tree.specs.declared.token.ByteKind.{ByteKind}
-use Rattle.ac_tree.specs.Tokens.{kind_of, Each, Ends, number_of}
+use Rattle.ac_tree.specs.Tokens.{kind_of, Each, number_of}
 
 pub each_more : (P : ByteKind → Type 0) (bytes : List ℕ) (n : ℕ) → n < length bytes → Each P (take n bytes) → P (kind_of (get_or bytes n 0)) → Each P (take (suc n) bytes)
 each_more P [] n h f g = absurd (omega arith)

@@ -1,10 +1,9 @@
 -- Cutting piece by piece: a blank, a comment or a token at a place.
-use Rattle.std.specs.Prelude.{◌≡◌, ℕ, ◌+◌, ◌-◌, ◌≤◌, ◌<◌, List, [], ◌∷◌, length, take, drop, Option, Some, None}
+use Rattle.std.specs.Prelude.{ℕ, ◌-◌, ◌≤◌, ◌<◌, List, [], ◌∷◌, length, take, drop, Option, None}
 use Rattle.std.specs.Option.{option_to_list}
 use Rattle.ac_tree.specs.declared.token.Sign.{Sign}
 use Rattle.ac_tree.specs.declared.token.ByteKind.{ByteKind}
 use Rattle.ac_tree.specs.declared.token.ByteKind.TheVariants.{Newline, Blank, Hash, Letter, Digit}
-use Rattle.ac_tree.specs.declared.token.Token.{Token}
 use Rattle.ac_tree.specs.Tokens.{kind_of, joined, InName, InNumber, InLine, Each, Ends, Cut}
 use Rattle.ac_parse.specs.declared.tokens.Run.{Run}
 use Rattle.ac_parse.specs.declared.tokens.Run.TheVariants as run

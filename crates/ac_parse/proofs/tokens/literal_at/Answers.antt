@@ -1,4 +1,4 @@
-use Rattle.std.proofs.Common.{arith, ◌≡◌, ◌+◌, ◌-◌, ◌≤◌, ◌<◌, drop, take, refl, subst, sym, get_or, ℕ, [], ◌∷◌}
+use Rattle.std.proofs.Common.{arith, ◌≡◌, ◌+◌, ◌-◌, ◌≤◌, drop, take, refl, subst, sym, get_or, [], ◌∷◌}
 use Rattle.ac_tree.specs.declared.token.Mark.TheVariants as mark
 use Rattle.ac_tree.specs.Tokens.{token, Cut, number_of}
 use Rattle.ac_parse.proofs.Placed.{literal_cut, zero_fault, digits_stand, token_piece_is}

@@ -1,4 +1,4 @@
-use Rattle.std.proofs.Common.{◌≡◌, ◌+◌, ◌-◌, ◌≤◌, length, take, drop}
+use Rattle.std.proofs.Common.{◌-◌, ◌≤◌, length, take, drop}
 use Rattle.ac_tree.specs.Tokens.{Each}
 use Rattle.ac_parse.specs.Pieces.{GoesOn}
 use Rattle.ac_parse.proofs.tokens.run_end.Given as goal

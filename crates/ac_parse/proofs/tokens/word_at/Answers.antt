@@ -1,4 +1,4 @@
-use Rattle.std.proofs.Common.{arith, ◌≡◌, ◌+◌, ◌-◌, ◌≤◌, drop, take, refl, subst, sym, ap, ◌∙◌, length, None, [], ◌∷◌}
+use Rattle.std.proofs.Common.{arith, ◌≡◌, ◌+◌, ◌≤◌, drop, refl, subst, sym, ap, ◌∙◌, length, None, [], ◌∷◌}
 use Rattle.ac_tree.specs.declared.token.Mark.TheVariants as mark
 use Rattle.ac_tree.specs.Tokens.{token, Cut, marked}
 use Rattle.ac_parse.specs.TokenFaults.{IsWithinLimits}
