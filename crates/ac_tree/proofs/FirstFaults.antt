@@ -1,5 +1,6 @@
 -- The first fault of each production, as code finds it: of a part, or else of the next.
-use Rattle.std.proofs.Common.{◌≡◌, ℕ, List, [], ◌∷◌, ◌++◌, ◌||◌, Bool, true, false, if◌then◌else◌, bytes_eq, Option, Some, None, refl, ap, sym, ◌∙◌, rules, arith}
+use Rattle.std.proofs.Common.{◌≡◌, ℕ, ◌+◌, ◌<◌, length, get_or, drop, List, [], ◌∷◌, ◌++◌, ◌||◌, Bool, true, false, if◌then◌else◌, bytes_eq, Option, Some, None, refl, ap, sym, ◌∙◌, rules, arith}
+use Rattle.std.proofs.lemmas.List.{drop_more}
 use mathlib.Core.Former.{Count}
 use Rattle.ac_tree.specs.declared.node.NodeId.{NodeId}
 use Rattle.ac_tree.specs.declared.program.Cond.{Cond}
@@ -15,7 +16,7 @@ use Rattle.ac_tree.specs.declared.program.Stmt.{Stmt}
 use Rattle.ac_tree.specs.declared.program.StmtKind.{the_lemmas as stmt_lemmas, Row_of-Stmt, end_of-Stmt, more_of-Stmt, items-the_row-Stmt}
 use Rattle.ac_tree.specs.declared.program.StmtKind.TheVariants as stmt
 use Rattle.ac_tree.specs.declared.static_rules.StaticFault.{StaticFault}
-use Rattle.ac_tree.specs.Opened.{hidden, expr_shape, expr_child, cond_shape, cond_child, stmt_shape, stmt_child}
+use Rattle.ac_tree.specs.Opened.{hidden, expr_shape, expr_child, cond_shape, cond_child}
 use Rattle.ac_tree.specs.StaticRules.{Word, Loop, broken, kind_in, set_tests, for_tests, use_tests, index_count, expr_faults, index_faults, cond_faults, reads, reads_index, stmt_faults, block_faults, list_faults, first_fault}
 
 -- the first of two
@@ -118,8 +119,8 @@ stmt-If ds loops at test xs ys = first_of (search (rules, stmt_lemmas, block_fau
 
 stmt-For : (ds : List Item) (loops : List Loop) (at : NodeId) (x : Word) (a b : Expr) (body : List Stmt) →
     stmt_faults ds loops at (stmt.For x a b body) ≡
-      broken at (for_tests loops x (kind_in ds x) a.kind b.kind) ++ (expr_faults ds a.node.id a.kind ++ (expr_faults ds b.node.id b.kind
-      ++ list_faults ds (record { variable = x; low = a.kind; high = b.kind } ∷ loops) body))
+    broken at (for_tests loops x (kind_in ds x) a.kind b.kind) ++ (expr_faults ds a.node.id a.kind ++ (expr_faults ds b.node.id b.kind
+    ++ list_faults ds (record { variable = x; low = a.kind; high = b.kind } ∷ loops) body))
 stmt-For ds loops at x a b body = first_of (search (rules, stmt_lemmas, block_faults-items), grind (arith, stmt_lemmas, block_faults-items))
 
 pub stmt_faults-While : (ds : List Item) (loops : List Loop) (at : NodeId) (test : Cond) (body : List Stmt) →
@@ -135,8 +136,8 @@ stmt_faults-If ds loops at test xs ys =
 
 pub stmt_faults-For : (ds : List Item) (loops : List Loop) (at : NodeId) (x : Word) (a b : Expr) (body : List Stmt) →
     first_fault (stmt_faults ds loops at (stmt.For x a b body)) ≡
-      or_else (first_fault (broken at (for_tests loops x (kind_in ds x) a.kind b.kind))) (or_else (first_fault (expr_faults ds a.node.id a.kind)) (or_else (first_fault (expr_faults ds b.node.id b.kind))
-      (first_fault (list_faults ds (record { variable = x; low = a.kind; high = b.kind } ∷ loops) body))))
+    or_else (first_fault (broken at (for_tests loops x (kind_in ds x) a.kind b.kind))) (or_else (first_fault (expr_faults ds a.node.id a.kind)) (or_else (first_fault (expr_faults ds b.node.id b.kind))
+    (first_fault (list_faults ds (record { variable = x; low = a.kind; high = b.kind } ∷ loops) body))))
 stmt_faults-For ds loops at x a b body =
     let own = broken at (for_tests loops x (kind_in ds x) a.kind b.kind) in
     let low = expr_faults ds a.node.id a.kind in
@@ -152,7 +153,7 @@ stmt_faults-Set ds loops at x a = first-append (broken at (set_tests loops x (ki
 
 pub stmt_faults-Put : (ds : List Item) (loops : List Loop) (at : NodeId) (x : Word) (i : Index) (a : Expr) →
     first_fault (stmt_faults ds loops at (stmt.Put x i a)) ≡
-      or_else (first_fault (broken at (set_tests loops x (kind_in ds x) (index_count i)))) (or_else (first_fault (index_faults ds i)) (first_fault (expr_faults ds a.node.id a.kind)))
+    or_else (first_fault (broken at (set_tests loops x (kind_in ds x) (index_count i)))) (or_else (first_fault (index_faults ds i)) (first_fault (expr_faults ds a.node.id a.kind)))
 stmt_faults-Put ds loops at x i a =
     first-append (broken at (set_tests loops x (kind_in ds x) (index_count i))) (index_faults ds i ++ expr_faults ds a.node.id a.kind)
     ∙ ap (or_else (first_fault (broken at (set_tests loops x (kind_in ds x) (index_count i))))) (first-append (index_faults ds i) (expr_faults ds a.node.id a.kind))
@@ -206,3 +207,12 @@ unfolding hidden expr_shape expr_child
 index_count-Two a b = refl
 
 pub ruleset read_rules = (expr_lemmas, reads-Num, reads-Get, reads-Read, reads-Neg, reads-Add, reads-Sub, reads-Mul, reads_index-One, reads_index-Two, index_count-One, index_count-Two)
+
+-- the statements from a place on: the one there, or else those behind it
+pub list_faults-drop : (ds : List Item) (loops : List Loop) (block : List Stmt) (i : ℕ) (s : Stmt) → i < length block → s ≡ get_or block i s →
+    first_fault (list_faults ds loops (drop i block)) ≡ or_else (first_fault (stmt_faults ds loops s.node.id s.kind)) (first_fault (list_faults ds loops (drop (i + 1) block)))
+list_faults-drop ds loops block i s h e =
+    let rest = list_faults ds loops (drop (i + 1) block) in
+    ap (λ xs. first_fault (list_faults ds loops xs)) (drop_more block i s h)
+    ∙ (first-append (stmt_faults ds loops (get_or block i s).node.id (get_or block i s).kind) rest
+    ∙ ap (λ (x : Stmt). or_else (first_fault (stmt_faults ds loops x.node.id x.kind)) (first_fault rest)) (sym e))

@@ -1,13 +1,10 @@
 -- The rules on declarations and names: which nodes break which rule. A node is judged by the declarations, and an assignment
 -- also by the loops around it. Only the first declaration of a name counts.
-use Rattle.std.specs.Prelude.{◌≡◌, ℕ, ◌+◌, Bool, true, false, nat_eq, ◌&&◌, ◌||◌, not, if◌then◌else◌, List, [], ◌∷◌, ◌++◌, length, Option, Some, None, is_some, ℤ, pos, int_lt, bytes_eq}
+use Rattle.std.specs.Prelude.{◌≡◌, ℕ, Bool, true, false, nat_eq, ◌&&◌, ◌||◌, not, if◌then◌else◌, List, [], ◌∷◌, ◌++◌, length, Option, Some, None, is_some, pos, int_lt, bytes_eq}
 use Rattle.std.specs.List.{list_any}
-use Rattle.ac_tree.specs.declared.node.Node.{Node}
 use Rattle.ac_tree.specs.declared.node.NodeId.{NodeId}
-use Rattle.ac_tree.specs.declared.program.Cond.{Cond}
 use Rattle.ac_tree.specs.declared.program.CondKind.{CondKind}
 use Rattle.ac_tree.specs.declared.program.CondKind.TheVariants.{True, False, Rel}
-use Rattle.ac_tree.specs.declared.program.Expr.{Expr}
 use Rattle.ac_tree.specs.declared.program.ExprKind.{ExprKind}
 use Rattle.ac_tree.specs.declared.program.ExprKind.TheVariants.{Num, Get, Read}
 use Rattle.ac_tree.specs.declared.program.Extent.{Extent}
@@ -157,8 +154,8 @@ items_faults before (d ∷ ds) = item_faults before d ++ items_faults (before ++
 abbrev pub index_tests : (extents indexes : ℕ) → List (ℕ × Bool)
 index_tests extents indexes =
     (indexed_scalar, nat_eq extents 0 && not (nat_eq indexes 0))
-  ∷ (wrong_indexes, not (nat_eq extents 0) && not (nat_eq indexes extents))
-  ∷ []
+    ∷ (wrong_indexes, not (nat_eq extents 0) && not (nat_eq indexes extents))
+    ∷ []
 
 -- a name with so many indexes; but for the first, the rules speak of declared names alone
 abbrev pub use_tests : Option ItemKind → ℕ → List (ℕ × Bool)
