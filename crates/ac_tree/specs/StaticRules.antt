@@ -1,13 +1,10 @@
 -- The rules on declarations and names: which nodes break which rule. A node is judged by the declarations, and an assignment
 -- also by the loops around it. Only the first declaration of a name counts.
-use Rattle.std.specs.Prelude.{◌≡◌, ℕ, ◌+◌, Bool, true, false, nat_eq, ◌&&◌, ◌||◌, not, if◌then◌else◌, List, [], ◌∷◌, ◌++◌, Option, Some, None, is_some, ℤ, pos, int_lt, bytes_eq}
+use Rattle.std.specs.Prelude.{◌≡◌, ℕ, Bool, true, false, nat_eq, ◌&&◌, ◌||◌, not, if◌then◌else◌, List, [], ◌∷◌, ◌++◌, length, Option, Some, None, is_some, pos, int_lt, bytes_eq}
 use Rattle.std.specs.List.{list_any}
-use Rattle.ac_tree.specs.declared.node.Node.{Node}
 use Rattle.ac_tree.specs.declared.node.NodeId.{NodeId}
-use Rattle.ac_tree.specs.declared.program.Cond.{Cond}
 use Rattle.ac_tree.specs.declared.program.CondKind.{CondKind}
 use Rattle.ac_tree.specs.declared.program.CondKind.TheVariants.{True, False, Rel}
-use Rattle.ac_tree.specs.declared.program.Expr.{Expr}
 use Rattle.ac_tree.specs.declared.program.ExprKind.{ExprKind}
 use Rattle.ac_tree.specs.declared.program.ExprKind.TheVariants.{Num, Get, Read}
 use Rattle.ac_tree.specs.declared.program.Extent.{Extent}
@@ -93,19 +90,18 @@ kind_in (d ∷ ds) x = if bytes_eq d.name x then Some d.kind else kind_in ds x
 abbrev pub is_declared : List Item → Word → Bool
 is_declared ds x = is_some (kind_in ds x)
 
+abbrev pub extents_in : Extents → List Extent
+extents_in (One e) = e ∷ []
+extents_in (Two e f) = e ∷ f ∷ []
+
 abbrev pub extents_of : ItemKind → List Extent
-extents_of (InputArray (One e) lo hi) = e ∷ []
-extents_of (InputArray (Two e f) lo hi) = e ∷ f ∷ []
-extents_of (VarArray (One e)) = e ∷ []
-extents_of (VarArray (Two e f)) = e ∷ f ∷ []
+extents_of (InputArray extents lo hi) = extents_in extents
+extents_of (VarArray extents) = extents_in extents
 extents_of _ = []
 
+-- how many indexes a name takes
 abbrev pub rank : ItemKind → ℕ
-rank (InputArray (One e) lo hi) = 1
-rank (InputArray (Two e f) lo hi) = 2
-rank (VarArray (One e)) = 1
-rank (VarArray (Two e f)) = 2
-rank _ = 0
+rank k = length (extents_of k)
 
 abbrev pub is_constant : ItemKind → Bool
 is_constant (Const value) = true
@@ -154,6 +150,12 @@ items_faults before [] = []
 items_faults before (d ∷ ds) = item_faults before d ++ items_faults (before ++ d ∷ []) ds
 
 -- Expressions.
+
+abbrev pub index_tests : (extents indexes : ℕ) → List (ℕ × Bool)
+index_tests extents indexes =
+    (indexed_scalar, nat_eq extents 0 && not (nat_eq indexes 0))
+    ∷ (wrong_indexes, not (nat_eq extents 0) && not (nat_eq indexes extents))
+    ∷ []
 
 -- a name with so many indexes; but for the first, the rules speak of declared names alone
 abbrev pub use_tests : Option ItemKind → ℕ → List (ℕ × Bool)
@@ -274,6 +276,10 @@ list_faults ds loops (s ∷ rest) = stmt_faults ds loops s.node.id s.kind ++ lis
 -- every broken rule of a program, in the order of its nodes, at one node by the rules' numbers
 abbrev pub faults : Program → List StaticFault
 faults p = items_faults [] p.items ++ list_faults p.items [] p.body
+
+abbrev pub first_fault : List StaticFault → Option StaticFault
+first_fault [] = None
+first_fault (f ∷ fs) = Some f
 
 -- no node breaks a rule
 abbrev pub Accepted : Program → Type 0
