@@ -1,0 +1,4 @@
+pub mod Opened
+pub mod Patterns
+pub mod Rewriting
+pub mod Order
