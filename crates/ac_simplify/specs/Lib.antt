@@ -1,4 +1,3 @@
 pub mod Opened
-pub mod Patterns
 pub mod Rewriting
 pub mod Order

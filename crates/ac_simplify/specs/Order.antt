@@ -4,7 +4,7 @@ use Rattle.std.specs.Ordering.{int_eq}
 use Rattle.ac_logic.specs.declared.formula.Term.{Term, Num}
 use Rattle.ac_logic.specs.declared.formula.Formula.{Formula, True, False, Le, Eq}
 use Rattle.ac_simplify.specs.declared.rewrite.Rewrite.{Rewrite}
-use Rattle.ac_simplify.specs.Patterns.{Negation, Conjunction, Disjunction, Implication, Every, Labelled}
+use Rattle.ac_logic.specs.Patterns.{Negation, Conjunction, Disjunction, Implication, Every, Labelled}
 use Rattle.ac_simplify.specs.Rewriting.{truth}
 use Rattle.ac_simplify.specs.Opened.{hidden, formula_shape, formula_child}
 

@@ -5,7 +5,7 @@ use Rattle.ac_logic.specs.declared.formula.Term.{Num}
 use Rattle.ac_logic.specs.declared.formula.Formula.{Formula, True, False, Le, Eq}
 use Rattle.ac_logic.specs.declared.label.Label.{Label}
 use Rattle.ac_simplify.specs.declared.rewrite.Rewrite.{Rewrite}
-use Rattle.ac_simplify.specs.Patterns.{Negation, Conjunction, Disjunction, Implication, Every, Labelled}
+use Rattle.ac_logic.specs.Patterns.{Negation, Conjunction, Disjunction, Implication, Every, Labelled}
 use Rattle.ac_simplify.specs.Opened.{hidden, formula_shape, formula_child}
 
 -- a truth value as a formula
