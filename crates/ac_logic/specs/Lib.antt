@@ -6,3 +6,4 @@ pub mod Readable
 pub mod Substitution
 pub mod Opening
 pub mod Absence
+pub mod Aim

@@ -1,12 +1,13 @@
 -- The rewrites in their order lead to the simplified formula, to which no rule applies.
-use Rattle.std.proofs.Common.{◌≡◌, ℕ, List, [], ◌∷◌, ◌++◌, map, Option, Some, None, refl}
+use Rattle.std.proofs.Common.{ℕ, List, [], ◌∷◌, ◌++◌, map, Some, None, Bool, true, false, int_le}
+use Rattle.std.specs.Ordering.{int_eq}
 use Rattle.ac_logic.specs.declared.formula.Term.{Term, Num}
 use Rattle.ac_logic.specs.declared.formula.Formula.{Formula, True, False, Le, Eq}
 use Rattle.ac_logic.specs.declared.label.Label.{Label}
 use Rattle.ac_simplify.specs.declared.rewrite.Rewrite.{Rewrite}
 use Rattle.ac_logic.specs.Patterns.{Negation, Conjunction, Disjunction, Implication, Every, Labelled}
 use Rattle.ac_simplify.specs.Rewriting as rewriting
-use Rattle.ac_simplify.specs.Rewriting.{Applies, AppliesAt, Replays, NoneApplies, IsSimple}
+use Rattle.ac_simplify.specs.Rewriting.{Applies, Replays, NoneApplies, IsSimple, truth}
 use Rattle.ac_simplify.specs.Order.{Reduct, first_negation, first_conjunction, first_disjunction, first_implication, first_le, first_eq, first_labelled, first_every, first_rule, after_first, first_rewrite, settled, settling, simplified, below, rewrites_of}
 use Rattle.ac_simplify.specs.Opened.{hidden, formula_shape, formula_child}
 
@@ -213,3 +214,77 @@ replays (Disjunction a b) = replays_after (replays_after (in_disjunction_left b 
 replays (Implication a b) = replays_after (replays_after (in_implication_left b (replays a)) (in_implication_right (simplified a) (replays b))) (settles (Implication (simplified a) (simplified b)))
 replays (Every a) = replays_after (in_every (replays a)) (settles (Every (simplified a)))
 replays (Labelled l a) = replays_after (in_label l (replays a)) (settles (Labelled l (simplified a)))
+
+-- no rule applies to what stays behind
+pub simple_true : IsSimple True
+unfolding hidden formula_shape formula_child
+simple_true = none_true
+
+simple_truth : (b : Bool) → IsSimple (truth b)
+unfolding hidden formula_shape formula_child
+simple_truth true = none_true
+simple_truth false = none_false
+
+simple_negation : (a : Formula) → IsSimple a → IsSimple (settled (Negation a))
+unfolding hidden formula_shape formula_child
+simple_negation True s = none_false
+simple_negation False s = none_true
+simple_negation a s = (none_negation a tt, s)
+
+simple_conjunction : (a b : Formula) → IsSimple a → IsSimple b → IsSimple (settled (Conjunction a b))
+unfolding hidden formula_shape formula_child
+simple_conjunction True b s t = t
+simple_conjunction a True s t = s
+simple_conjunction False b s t = none_false
+simple_conjunction a False s t = none_false
+simple_conjunction a b s t = (none_conjunction a b tt tt, s, t)
+
+simple_disjunction : (a b : Formula) → IsSimple a → IsSimple b → IsSimple (settled (Disjunction a b))
+unfolding hidden formula_shape formula_child
+simple_disjunction True b s t = none_true
+simple_disjunction a True s t = none_true
+simple_disjunction False b s t = t
+simple_disjunction a False s t = s
+simple_disjunction a b s t = (none_disjunction a b tt tt, s, t)
+
+simple_implication : (a b : Formula) → IsSimple a → IsSimple b → IsSimple (settled (Implication a b))
+unfolding hidden formula_shape formula_child
+simple_implication True b s t = t
+simple_implication False b s t = none_true
+simple_implication a True s t = none_true
+simple_implication a b s t = (none_implication a b tt tt, s, t)
+
+simple_labelled : (l : Label) (a : Formula) → IsSimple a → IsSimple (settled (Labelled l a))
+unfolding hidden formula_shape formula_child
+simple_labelled l True s = none_true
+simple_labelled l a s = (none_labelled l a tt, s)
+
+simple_every : (a : Formula) → IsSimple a → IsSimple (settled (Every a))
+unfolding hidden formula_shape formula_child
+simple_every True s = none_true
+simple_every a s = (none_every a tt, s)
+
+simple_le : (s t : Term) → IsSimple (settled (Le s t))
+unfolding hidden formula_shape formula_child
+simple_le (Num m) (Num n) = simple_truth (int_le m n)
+simple_le (Num m) t = none_le_right (Num m) t tt
+simple_le s t = none_le_left s t tt
+
+simple_eq : (s t : Term) → IsSimple (settled (Eq s t))
+unfolding hidden formula_shape formula_child
+simple_eq (Num m) (Num n) = simple_truth (int_eq m n)
+simple_eq (Num m) t = none_eq_right (Num m) t tt
+simple_eq s t = none_eq_left s t tt
+
+pub simple : (a : Formula) → IsSimple (simplified a)
+unfolding hidden formula_shape formula_child
+simple True = none_true
+simple False = none_false
+simple (Le s t) = simple_le s t
+simple (Eq s t) = simple_eq s t
+simple (Negation a) = simple_negation (simplified a) (simple a)
+simple (Conjunction a b) = simple_conjunction (simplified a) (simplified b) (simple a) (simple b)
+simple (Disjunction a b) = simple_disjunction (simplified a) (simplified b) (simple a) (simple b)
+simple (Implication a b) = simple_implication (simplified a) (simplified b) (simple a) (simple b)
+simple (Every a) = simple_every (simplified a) (simple a)
+simple (Labelled l a) = simple_labelled l (simplified a) (simple a)
