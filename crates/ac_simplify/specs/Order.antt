@@ -91,16 +91,38 @@ simplified (Every a) = settled (Every (simplified a))
 simplified (Labelled l a) = settled (Labelled l (simplified a))
 simplified a = settled a
 
+-- the formula with its parts simplified
+abbrev pub inside : Formula → Formula
+unfolding hidden formula_shape formula_child
+inside (Negation a) = Negation (simplified a)
+inside (Conjunction a b) = Conjunction (simplified a) (simplified b)
+inside (Disjunction a b) = Disjunction (simplified a) (simplified b)
+inside (Implication a b) = Implication (simplified a) (simplified b)
+inside (Every a) = Every (simplified a)
+inside (Labelled l a) = Labelled l (simplified a)
+inside a = a
+
 -- a rewrite of a child
 abbrev pub below : List ℕ → Rewrite → Rewrite
 below p w = record w { path = p ++ w.path }
 
 abbrev pub rewrites_of : Formula → List Rewrite
 unfolding hidden formula_shape formula_child
-rewrites_of (Negation a) = map (below (0 ∷ [])) (rewrites_of a) ++ settling (Negation (simplified a))
-rewrites_of (Conjunction a b) = map (below (0 ∷ [])) (rewrites_of a) ++ map (below (1 ∷ [])) (rewrites_of b) ++ settling (Conjunction (simplified a) (simplified b))
-rewrites_of (Disjunction a b) = map (below (0 ∷ [])) (rewrites_of a) ++ map (below (1 ∷ [])) (rewrites_of b) ++ settling (Disjunction (simplified a) (simplified b))
-rewrites_of (Implication a b) = map (below (0 ∷ [])) (rewrites_of a) ++ map (below (1 ∷ [])) (rewrites_of b) ++ settling (Implication (simplified a) (simplified b))
-rewrites_of (Every a) = map (below (0 ∷ [])) (rewrites_of a) ++ settling (Every (simplified a))
-rewrites_of (Labelled l a) = map (below (0 ∷ [])) (rewrites_of a) ++ settling (Labelled l (simplified a))
+rewrites_of (Negation a) = map (below (0 ∷ [])) (rewrites_of a) ++ settling (inside (Negation a))
+rewrites_of (Conjunction a b) = map (below (0 ∷ [])) (rewrites_of a) ++ map (below (1 ∷ [])) (rewrites_of b) ++ settling (inside (Conjunction a b))
+rewrites_of (Disjunction a b) = map (below (0 ∷ [])) (rewrites_of a) ++ map (below (1 ∷ [])) (rewrites_of b) ++ settling (inside (Disjunction a b))
+rewrites_of (Implication a b) = map (below (0 ∷ [])) (rewrites_of a) ++ map (below (1 ∷ [])) (rewrites_of b) ++ settling (inside (Implication a b))
+rewrites_of (Every a) = map (below (0 ∷ [])) (rewrites_of a) ++ settling (inside (Every a))
+rewrites_of (Labelled l a) = map (below (0 ∷ [])) (rewrites_of a) ++ settling (inside (Labelled l a))
 rewrites_of a = settling a
+
+-- the rewrites in the parts
+abbrev pub inside_rewrites : Formula → List Rewrite
+unfolding hidden formula_shape formula_child
+inside_rewrites (Negation a) = map (below (0 ∷ [])) (rewrites_of a)
+inside_rewrites (Conjunction a b) = map (below (0 ∷ [])) (rewrites_of a) ++ map (below (1 ∷ [])) (rewrites_of b)
+inside_rewrites (Disjunction a b) = map (below (0 ∷ [])) (rewrites_of a) ++ map (below (1 ∷ [])) (rewrites_of b)
+inside_rewrites (Implication a b) = map (below (0 ∷ [])) (rewrites_of a) ++ map (below (1 ∷ [])) (rewrites_of b)
+inside_rewrites (Every a) = map (below (0 ∷ [])) (rewrites_of a)
+inside_rewrites (Labelled l a) = map (below (0 ∷ [])) (rewrites_of a)
+inside_rewrites a = []
