@@ -3,7 +3,6 @@
 -- parentheses or braces round it, and by its tree, whose own span leaves them out. Here every node has the number 0.
 use Rattle.std.specs.Prelude.{ℕ, List, [], ◌∷◌, ◌++◌, ℤ, pos, neg_ℤ}
 use Rattle.ac_tree.specs.declared.node.Node.{Node}
-use Rattle.ac_tree.specs.declared.node.NodeId.{NodeId}
 use Rattle.ac_tree.specs.declared.node.Span.{Span}
 use Rattle.ac_tree.specs.declared.program.Cond.{Cond}
 use Rattle.ac_tree.specs.declared.program.CondKind.{CondKind}
