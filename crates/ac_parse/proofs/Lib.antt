@@ -1,2 +1,4 @@
 pub mod Paths
 pub mod ExpressionComplete
+pub mod ExpressionSound
+pub mod ExpressionEnds
