@@ -2,3 +2,4 @@ pub mod Paths
 pub mod ExpressionComplete
 pub mod ExpressionSound
 pub mod ExpressionEnds
+pub mod ConditionComplete

@@ -2,7 +2,7 @@
 use Rattle.std.proofs.Common.{◌≡◌, Bool, true, false, List, [], ◌∷◌, ◌++◌, Option, Some, None, refl, sym, ◌∙◌, ap}
 use Rattle.ac_tree.specs.declared.token.Token.{Token}
 use Rattle.ac_tree.specs.Grammar.{Tokens}
-use Rattle.ac_parse.specs.Steps.{runs, inside}
+use Rattle.ac_parse.specs.Steps.{runs, taken, passed, inside}
 
 -- the tokens lead from one state to the other
 abbrev pub IsPath : {S : Type 0} → (S → Token → Option S) → S → Tokens → S → Type 0
@@ -46,3 +46,19 @@ path_within inner outer within stays (t ∷ ts) m n h = (within h.0, stays m h.0
 pub step_runs : {S V : Type 0} (step : S → Token → Option S) (value : S → Option V) (m n : S) (t : Token) (rest : Tokens) → step m t ≡ Some n →
     runs step value m (t ∷ rest) ≡ runs step value n rest
 step_runs step value m n t rest h = ap (λ o. go_on step value o rest) h
+
+-- a machine inside another: its own token, and the first that isn't
+pub inside_taken : {M S V : Type 0} (within : M → S) (after : V → Option S) (own : Bool) (m : Option M) (v : Option V) (j : M) → own ≡ true → m ≡ Some j →
+    inside within after own m v ≡ Some (within j)
+inside_taken within after own m v j o h = ap (λ b. inside within after b m v) o ∙ ap (taken within) h
+
+pub inside_passed : {M S V : Type 0} (within : M → S) (after : V → Option S) (own : Bool) (m : Option M) (v : Option V) (x : V) → own ≡ false → v ≡ Some x →
+    inside within after own m v ≡ after x
+inside_passed within after own m v x o h = ap (λ b. inside within after b m v) o ∙ ap (passed after) h
+
+pub inside_cases : {M S V : Type 0} (within : M → S) (after : V → Option S) (P : Option S → Type 0) (own : Bool) (m : Option M) (v : Option V) → P None →
+    ((j : M) → m ≡ Some j → P (Some (within j))) → ((x : V) → v ≡ Some x → P (after x)) → P (inside within after own m v)
+inside_cases within after P true None v none some whole = none
+inside_cases within after P true (Some j) v none some whole = some j refl
+inside_cases within after P false m None none some whole = none
+inside_cases within after P false m (Some x) none some whole = whole x refl

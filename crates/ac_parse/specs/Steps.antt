@@ -9,8 +9,14 @@ runs step value s [] = value s
 runs step value s (t ∷ ts) = elim (step s t) [ None ↦ None | Some n ↦ runs step value n ts ]
 
 -- A machine inside another takes its own tokens. Behind them its value is passed on.
-abbrev pub inside : {M S V : Type 0} → (M → S) → (V → Option S) → Option M → Option V → Bool → Option S
-inside within after (Some m) v true = Some (within m)
-inside within after None v true = None
-inside within after m (Some v) false = after v
-inside within after m None false = None
+abbrev pub taken : {M S : Type 0} → (M → S) → Option M → Option S
+taken within None = None
+taken within (Some m) = Some (within m)
+
+abbrev pub passed : {V S : Type 0} → (V → Option S) → Option V → Option S
+passed after None = None
+passed after (Some v) = after v
+
+abbrev pub inside : {M S V : Type 0} → (M → S) → (V → Option S) → Bool → Option M → Option V → Option S
+inside within after true m v = taken within m
+inside within after false m v = passed after v

@@ -5,5 +5,6 @@
 //! spells and stops exactly at the first token at which nothing continues.
 #![tactic(auto)]
 
+mod condition;
 mod expression;
 mod stack;
