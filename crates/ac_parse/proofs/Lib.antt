@@ -3,3 +3,5 @@ pub mod ExpressionComplete
 pub mod ExpressionSound
 pub mod ExpressionEnds
 pub mod ConditionComplete
+pub mod ConditionSound
+pub mod ConditionEnds
