@@ -1,5 +1,6 @@
 -- The starts that fit a program.
-use Rattle.std.specs.Prelude.{◌≡◌, ℕ, ◌*◌, Bool, true, false, List, [], ◌∷◌, length, filter, All, Some, ℤ, ◌≤ℤ◌}
+use Rattle.std.specs.Prelude.{◌≡◌, ℕ, ◌*◌, Bool, true, false, List, length, filter, All, Some, ℤ, ◌≤ℤ◌}
+use Rattle.std.specs.List.{AllZip}
 use Rattle.ac_tree.specs.declared.program.Program.{Program}
 use Rattle.ac_tree.specs.declared.program.Item.{Item}
 use Rattle.ac_tree.specs.declared.program.ItemKind.{ItemKind}
@@ -29,11 +30,6 @@ module _ (p : Program) (start : Start) where
   FitsItem d c =
       (c.name ≡ d.name) × (length c.numbers ≡ count (shape_in p start (Some d.kind))) × All (InRange d.kind) c.numbers
 
-  abbrev pub FitEach : List Item → List StartCell → Type 0
-  FitEach [] [] = Unit {0}
-  FitEach (d ∷ ds) (c ∷ cs) = FitsItem d c × FitEach ds cs
-  FitEach _ _ = ⊥
-
   -- one list of numbers for each input and var, in the order of the declarations
   abbrev pub Fits : Type 0
-  Fits = FitEach (filter (λ d. is_held d.kind) p.items) start.cells
+  Fits = AllZip FitsItem (filter (λ d. is_held d.kind) p.items) start.cells

@@ -6,7 +6,9 @@
 #![tactic(auto)]
 
 mod event;
+mod laws;
 mod start;
 
 pub use event::{Cell, Event};
+pub use laws::straight_writes_are_safe;
 pub use start::{Start, StartCell};
