@@ -5,5 +5,4 @@ ghost use Rattle.ac_run.specs.StraightWrites.{WritesWithin};
 /// The law that a program is safe if it does nothing but write literals at literal indexes within its arrays.
 pub fn straight_writes_are_safe()
     ensures { (p : Program) → WritesWithin p → (q : Policies) → Safe p q }
-{
-}
+{}
