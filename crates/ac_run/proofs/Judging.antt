@@ -1,8 +1,8 @@
 -- Tests of a trace, which compute, and what they show.
-use Rattle.std.proofs.Common.{◌≡◌, ◌≢◌, ℕ, zero, suc, ◌+◌, ◌*◌, ◌<◌, nat_eq, nat_lt, nat_le, ℤ, pos, negsuc, List, [], ◌∷◌, ◌++◌, length, Bool, true, false, not, ◌&&◌, ◌||◌, Option, Some, None, refl, sym, ◌∙◌, ap, subst, IsTrue, bytes_eq, rules, arith, append_assoc}
-use Rattle.std.specs.Prelude.{Contains, slice_get, slice_index_or}
+use Rattle.std.proofs.Common.{◌≡◌, ℕ, zero, suc, ◌+◌, ◌*◌, ◌<◌, nat_eq, nat_lt, nat_le, ℤ, pos, negsuc, List, [], ◌∷◌, ◌++◌, length, Bool, true, false, not, ◌&&◌, ◌||◌, Option, Some, None, refl, sym, ◌∙◌, ap, subst, bytes_eq, rules, arith, append_assoc}
+use Rattle.std.specs.Prelude.{slice_get, slice_index_or}
 use Rattle.std.specs.Ordering.{int_eq}
-use mathlib.Core.Logic.{◌⊎◌, inl, inr}
+use mathlib.Core.Logic.{inl, inr}
 use Rattle.std.proofs.lemmas.Bool.{false≢true, and_parts, or_cases, not-true, eqb-true, ltb-true, cases_eq}
 use Rattle.std.proofs.lemmas.Bool.Decides.{Decides-int_eq}
 use Rattle.std.proofs.lemmas.Slice.Eq.{bytes_eq-Decides}
@@ -53,8 +53,9 @@ write-here (Hand x role ns) es c h = absurd (false≢true h)
 pub wrote-true : (trace : List Event) (c : Cell) → wrote trace c ≡ true → Wrote trace c
 wrote-true [] c h = absurd (false≢true h)
 wrote-true (e ∷ es) c h = elim (or_cases (is_write_of e c) (wrote es c) h) [
-    inl here ↦ write-here e es c here
-  | inr later ↦ (let w = wrote-true es c later in (w.0, (suc w.1.0, omega (arith, w.1.1), w.1.2))) ]
+  | inl here ↦ write-here e es c here
+  | inr later ↦ (let w = wrote-true es c later in (w.0, (suc w.1.0, omega (arith, w.1.1), w.1.2)))
+]
 
 or-later : (b : Bool) → (b || true) ≡ true
 or-later true = refl
@@ -78,8 +79,9 @@ all_below-at zero f h at l = absurd (omega (arith, l))
 all_below-at (suc n) f h at l =
     let parts = and_parts (f n) (all_below n f) h in
     elim (cases_eq at n) [
-        inl same ↦ ap f same ∙ parts.0
-      | inr other ↦ all_below-at n f parts.1 at (omega (arith, l, other)) ]
+      | inl same ↦ ap f same ∙ parts.0
+      | inr other ↦ all_below-at n f parts.1 at (omega (arith, l, other))
+    ]
 
 abbrev every_cell : Shape → (ℤ → ℤ → Bool) → Bool
 every_cell Scalar f = f (pos 0) (pos 0)
@@ -103,7 +105,7 @@ every_cell-at (Vector n) f h i j k =
 every_cell-at (Matrix n m) f h i j k =
     let parts = and_parts (is_below i n) (is_below j m) k in
     at_index (λ i. f i j ≡ true) n
-      (λ i l. at_index (λ j. f (pos i) j ≡ true) m (all_below-at m (λ j. f (pos i) (pos j)) (all_below-at n (λ i. all_below m (λ j. f (pos i) (pos j))) h i l)) j parts.1) i parts.0
+    (λ i l. at_index (λ j. f (pos i) j ≡ true) m (all_below-at m (λ j. f (pos i) (pos j)) (all_below-at n (λ i. all_below m (λ j. f (pos i) (pos j))) h i l)) j parts.1) i parts.0
 
 -- symmetric matrices
 abbrev same_number : Option ℤ → Option ℤ → Bool
@@ -151,19 +153,22 @@ module _ (p : Program) (start : Start) (roles : List Word) where
 
   fine-not : (policy : PolicyName) (before : List Event) (e : Event) → is_fine policy before e ≡ true → ¬ Bad p start roles policy before e
   fine-not Init before (Read c) h k = elim (or_cases (is_input p c.name) (wrote before c) h) [
-      inl input ↦ false≢true (sym k.0 ∙ input)
-    | inr written ↦ k.1 (wrote-true before c written) ]
+    | inl input ↦ false≢true (sym k.0 ∙ input)
+    | inr written ↦ k.1 (wrote-true before c written)
+  ]
   fine-not Init before (Hand x role ns) h k = elim (or_cases (is_input p x) (every_cell (shape p start x) (λ i j. wrote before (cell_at x i j))) h) [
-      inl input ↦ false≢true (sym k.0 ∙ input)
+    | inl input ↦ false≢true (sym k.0 ∙ input)
     | inr all ↦ (let c = k.1.0 in
         let inside = subst (λ (y : Word). is_within (shape p start y) c.i c.j ≡ true) k.1.1 k.1.2 in
         let written = every_cell-at (shape p start x) (λ i j. wrote before (cell_at x i j)) all c.i c.j inside in
-        k.1.3 (wrote-true before c (subst (λ (y : Word). wrote before (cell_at y c.i c.j) ≡ true) (sym k.1.1) written))) ]
+        k.1.3 (wrote-true before c (subst (λ (y : Word). wrote before (cell_at y c.i c.j) ≡ true) (sym k.1.1) written)))
+  ]
   fine-not Bounds before (Read c) h k = false≢true (sym k ∙ h)
   fine-not Bounds before (Write c n) h k = false≢true (sym k ∙ h)
   fine-not Symm before (Hand x role ns) h k = elim (or_cases (not (is_listed roles role)) (is_symmetric (shape p start x) ns) h) [
-      inl other ↦ false≢true (sym (not-true (is_listed roles role) other) ∙ listed roles role k.0.0 k.0.1 k.0.2)
-    | inr symmetric ↦ symmetric-not (shape p start x) ns symmetric k.1 ]
+    | inl other ↦ false≢true (sym (not-true (is_listed roles role) other) ∙ listed roles role k.0.0 k.0.1 k.0.2)
+    | inr symmetric ↦ symmetric-not (shape p start x) ns symmetric k.1
+  ]
   fine-not Init before (Write c n) h k = k
   fine-not Bounds before (Hand x role ns) h k = k
   fine-not Symm before (Read c) h k = k
@@ -184,7 +189,7 @@ module _ (p : Program) (start : Start) (roles : List Word) where
       subst (λ (z : List Event). is_fine policy z e ≡ true) (sym (nil past)) (and_parts (is_fine policy past e) _ h).0
   fine-at policy past (f ∷ before) e after h =
       subst (λ (z : List Event). is_fine policy z e ≡ true) (one_more past before f)
-        (fine-at policy (past ++ f ∷ []) before e after (and_parts (is_fine policy past f) _ h).1)
+      (fine-at policy (past ++ f ∷ []) before e after (and_parts (is_fine policy past f) _ h).1)
 
   pub fine_never : (policy : PolicyName) (trace : List Event) → are_fine policy [] trace ≡ true → ¬ Violates p start roles policy trace
   fine_never policy trace h v =
