@@ -7,6 +7,7 @@
 #![tactic(auto, unfolding(crate::specs::Opened::formula_shape, crate::specs::Opened::formula_child, crate::specs::Opened::term_shape, crate::specs::Opened::term_child, crate::specs::Opened::array_shape, crate::specs::Opened::array_child, crate::specs::Opened::hidden))]
 
 mod certificate;
+mod propositional;
 mod rule;
 mod tree;
 
