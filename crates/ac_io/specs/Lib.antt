@@ -1,0 +1,5 @@
+pub mod Contents
+pub mod Counts
+pub mod Limit
+pub mod Written
+pub mod Host
