@@ -66,4 +66,8 @@ noted_twice p q old mid new e f g inner back outer same is =
     ∙ (ap (λ (ws : List Rewrite). old ++ map (below p) ws) (sym (rewrites_of-inside f))
     ∙ ap (λ (h : Formula). old ++ map (below p) (rewrites_of h)) is))))))
 
-pub ruleset walk_rules = (pushed_back, below_child, simplified-inside, rewrites_of-inside)
+pub below_root : (ws : List Rewrite) → map (below []) ws ≡ ws
+below_root [] = refl
+below_root (w ∷ ws) = λ k. w ∷ below_root ws k
+
+pub ruleset walk_rules = (below_root, pushed_back, below_child, simplified-inside, rewrites_of-inside)
