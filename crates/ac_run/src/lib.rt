@@ -7,9 +7,9 @@
 
 mod event;
 pub mod examples;
-mod laws;
 mod start;
+mod straight;
 
 pub use event::{Cell, Event};
-pub use laws::straight_writes_are_safe;
 pub use start::{Start, StartCell};
+pub use straight::{is_write_within, straight_writes_are_safe, writes_within};
