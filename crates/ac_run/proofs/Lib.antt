@@ -1,2 +1,3 @@
 pub mod WritesWithin
 pub mod Judging
+pub mod Halts

@@ -7,9 +7,11 @@
 
 mod event;
 pub mod examples;
+mod halting;
 mod start;
 mod straight;
 
 pub use event::{Cell, Event};
+pub use halting::a_run_halts_exactly_outside;
 pub use start::{Start, StartCell};
 pub use straight::{is_write_within, straight_writes_are_safe, writes_within};
