@@ -5,3 +5,8 @@ pub mod ExpressionEnds
 pub mod ConditionComplete
 pub mod ConditionSound
 pub mod ConditionEnds
+pub mod ByteKinds
+pub mod Runs
+pub mod Placed
+pub mod Scan
+pub mod Cuts

@@ -8,3 +8,6 @@
 mod condition;
 mod expression;
 mod stack;
+mod tokens;
+
+pub use tokens::{TokenFault, tokenize, utf8_text};
