@@ -5,3 +5,4 @@ pub mod ExpressionEnds
 pub mod ConditionComplete
 pub mod ConditionSound
 pub mod ConditionEnds
+pub mod StatementComplete

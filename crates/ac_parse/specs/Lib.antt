@@ -1,3 +1,4 @@
 pub mod Steps
 pub mod ReadExpression
 pub mod ReadCondition
+pub mod ReadStatement

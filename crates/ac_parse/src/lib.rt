@@ -8,3 +8,4 @@
 mod condition;
 mod expression;
 mod stack;
+mod statement;
