@@ -6,3 +6,5 @@ pub mod ConditionComplete
 pub mod ConditionSound
 pub mod ConditionEnds
 pub mod StatementComplete
+pub mod StatementSound
+pub mod StatementEnds
