@@ -8,3 +8,6 @@ pub mod ConditionEnds
 pub mod StatementComplete
 pub mod StatementSound
 pub mod StatementEnds
+pub mod ProgramComplete
+pub mod ProgramSound
+pub mod ProgramEnds

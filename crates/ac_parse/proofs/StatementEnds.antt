@@ -24,9 +24,9 @@ use Rattle.ac_parse.specs.declared.statement.StmtState.{StmtState}
 use Rattle.ac_parse.specs.declared.statement.StmtState.TheVariants.{Between, Named, Indexed, Expression, Condition, For, ForName, Use, UseName, UseAs, UseRole, Skip}
 use Rattle.ac_parse.specs.ReadCondition as condition
 use Rattle.ac_parse.specs.ReadExpression as expression
-use Rattle.ac_parse.specs.ReadStatement.{Stack, Block, reading, ended, opened, evaluating, testing, behind, tested, between, ending, step, step_at, value, runs, is_own, is_open}
+use Rattle.ac_parse.specs.ReadStatement.{Stack, Block, reading, ended, opened, evaluating, testing, behind, tested, between, ending, step, step_at, value, value_at, runs, is_own, is_open}
 use Rattle.ac_parse.specs.Steps.{inside, passed}
-use Rattle.ac_parse.proofs.ConditionEnds.{condition_ends}
+use Rattle.ac_parse.proofs.ConditionEnds.{condition_ends, none_passed}
 use Rattle.ac_parse.proofs.ExpressionEnds.{nowhere, expression_ends}
 use Rattle.ac_parse.proofs.Paths.{Reaches, reached}
 use Rattle.ac_parse.proofs.StatementComplete.{run, expression_leads, condition_leads}
@@ -107,3 +107,37 @@ pub record Ending (m : StmtReading) : Type 0 where
 -- some tokens complete it
 pub block_ends : (m : StmtReading) → Ending m
 block_ends m = let c = state_completed m.stack m.done m.state in record { tree = c.tree; tokens = c.tokens; reaches = reached step value c.tokens m c.tree c.reads }
+
+-- where the block is whole, no statement is open
+closed_at : (k : Stack) (ys : Block) (s : StmtState) (xs : Block) → value_at k ys s ≡ Some xs → k ≡ []
+closed_at [] ys s xs h = refl
+closed_at (f ∷ k) ys s xs h = cc
+
+pub block_closed : (m : StmtReading) (xs : Block) → value m ≡ Some xs → m.stack ≡ []
+block_closed m xs h = closed_at m.stack m.done m.state xs h
+
+-- a token that it takes is its own: `end` is not, where no statement is open
+end_behind : (xs : Block) (u : ExprUse) (e : Span) (a : Operand) → behind [] xs u e (mark.Keyword keyword.End) a ≡ None
+end_behind xs (Value x s) e a = refl
+end_behind xs (First x s) e a = refl
+end_behind xs (Second x s b) e a = refl
+end_behind xs (Cell x s i) e a = refl
+end_behind xs (Low s x) e a = refl
+end_behind xs (High s x b) e a = refl
+
+end_tested : (xs : Block) (u : CondUse) (c : Test) → tested [] xs u (mark.Keyword keyword.End) c ≡ None
+end_tested xs (test.If s) c = refl
+end_tested xs (test.While s) c = refl
+
+end_stuck : (xs : Block) (s : StmtState) (e : Span) (j : StmtReading) → step_at [] xs s (keyword_at keyword.End e) ≡ Some j → ⊥
+end_stuck xs (Expression u m) e j h = none_passed (behind [] xs u e (mark.Keyword keyword.End)) (expression.value m) j (end_behind xs u e) h
+end_stuck xs (Condition u m) e j h = none_passed (tested [] xs u (mark.Keyword keyword.End)) (condition.value m) j (end_tested xs u) h
+end_stuck xs _ e j h = cc
+
+state_own : (k : Stack) (xs : Block) (s : StmtState) (e : Span) (m : Mark) (j : StmtReading) → step_at k xs s (record { mark = m; span = e }) ≡ Some j → is_own k m ≡ true
+state_own [] xs s e (mark.Keyword keyword.End) j h = absurd (end_stuck xs s e j h)
+state_own (f ∷ k) xs s e (mark.Keyword keyword.End) j h = refl
+state_own k xs s e _ j h = refl
+
+pub block_own : (m j : StmtReading) (t : Token) → step m t ≡ Some j → is_own m.stack t.mark ≡ true
+block_own m j t h = state_own m.stack m.done m.state t.span t.mark j h

@@ -6,6 +6,7 @@
 #![tactic(auto)]
 
 mod condition;
+mod declaration;
 mod expression;
 mod stack;
 mod statement;
