@@ -10,3 +10,9 @@ pub mod Runs
 pub mod Placed
 pub mod Scan
 pub mod Cuts
+pub mod StatementComplete
+pub mod StatementSound
+pub mod StatementEnds
+pub mod ProgramComplete
+pub mod ProgramSound
+pub mod ProgramEnds

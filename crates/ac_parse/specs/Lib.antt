@@ -3,3 +3,5 @@ pub mod ReadExpression
 pub mod ReadCondition
 pub mod TokenFaults
 pub mod Pieces
+pub mod ReadStatement
+pub mod ReadProgram
