@@ -1,3 +1,4 @@
 pub mod WritesWithin
 pub mod Judging
 pub mod Halts
+pub mod SomeStart

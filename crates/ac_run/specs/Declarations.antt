@@ -2,24 +2,15 @@
 use Rattle.std.specs.Prelude.{ℕ, Bool, true, false, if◌then◌else◌, List, [], ◌∷◌, Option, Some, None, slice_index_or, ℤ, pos, nat_abs}
 use Rattle.std.specs.Str.{bytes_eq}
 use Rattle.ac_tree.specs.declared.program.Program.{Program}
-use Rattle.ac_tree.specs.declared.program.Item.{Item}
 use Rattle.ac_tree.specs.declared.program.ItemKind.{ItemKind}
 use Rattle.ac_tree.specs.declared.program.ItemKind.TheVariants.{Const, InputScalar, InputArray, VarArray}
 use Rattle.ac_tree.specs.declared.program.Extents.{Extents}
 use Rattle.ac_tree.specs.declared.program.Extents.TheVariants.{One, Two}
 use Rattle.ac_tree.specs.declared.program.Extent.{Extent}
 use Rattle.ac_tree.specs.declared.program.Extent.TheVariants.{Lit, Named}
+pub use Rattle.ac_tree.specs.StaticRules.{Word, kind_in}
 use Rattle.ac_run.specs.declared.start.Start.{Start}
 use Rattle.ac_run.specs.declared.start.StartCell.{StartCell}
-
--- the bytes of a name
-abbrev pub Word : Type 0
-Word = List ℕ
-
--- what the first declaration of a name says
-abbrev pub kind_in : List Item → Word → Option ItemKind
-kind_in [] x = None
-kind_in (d ∷ ds) x = if bytes_eq d.name x then Some d.kind else kind_in ds x
 
 abbrev pub constant_in : Option ItemKind → Option ℤ
 constant_in (Some (Const value)) = Some value

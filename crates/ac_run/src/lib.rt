@@ -13,5 +13,5 @@ mod straight;
 
 pub use event::{Cell, Event};
 pub use halting::a_run_halts_exactly_outside;
-pub use start::{Start, StartCell};
+pub use start::{Start, StartCell, some_start_fits};
 pub use straight::{is_write_within, straight_writes_are_safe, writes_within};
