@@ -2,3 +2,4 @@ pub mod WritesWithin
 pub mod Judging
 pub mod Halts
 pub mod SomeStart
+pub mod Growth
