@@ -1,12 +1,16 @@
 -- What is cut so is scanned so: bytes are cut in one way at most.
-use Rattle.std.proofs.Common.{◌≡◌, ℕ, ◌+◌, List, [], ◌∷◌, ◌++◌, length, Some, Result, Ok, Err, refl, sym, ◌∙◌, ap, append_assoc, append-nil, arith, nat_eq, Bool, false, if◌then◌else◌}
+use Rattle.std.proofs.Common.{◌≡◌, ℕ, ◌+◌, ◌≤◌, ◌<◌, List, [], ◌∷◌, ◌++◌, length, Some, Result, Ok, Err, refl, sym, ◌∙◌, ap, append_assoc, append-nil, arith, nat_eq, Bool, true, false, inl, inr, subst, if◌then◌else◌}
 use Rattle.std.proofs.lemmas.Bool.Decides.{nat_tests}
 use Rattle.ac_tree.specs.declared.token.ByteKind.{ByteKind}
-use Rattle.ac_tree.specs.declared.token.ByteKind.TheVariants.{Newline, Blank, Letter, Digit, Underscore, Dot, Lone}
+use Rattle.ac_tree.specs.declared.token.ByteKind.TheVariants.{Newline, Blank, Letter, Digit, Underscore, At, Dot, Lone, Other}
 use Rattle.ac_tree.specs.declared.token.Sign.{Sign}
 use Rattle.ac_tree.specs.declared.token.Token.{Token}
 use Rattle.ac_tree.specs.Tokens.{kind_of, joined, IsBlank, InName, InNumber, InLine, Each, Ends, StandsAlone, IsStray, BeginsWithDigit, IsFault, token, Cut, IsCutInto}
 use Rattle.ac_tree.specs.Tokens as cut
+use Rattle.ac_parse.specs.declared.tokens.TokenFault.{TokenFault}
+use Rattle.ac_parse.specs.declared.tokens.TokenFault.TheVariants as fault
+use Rattle.ac_parse.specs.TokenFaults.{IsWithinLimits, AreWithinLimits, IsTokenized, IsFirstFault}
+use Rattle.ac_parse.proofs.Placed.{cut_joined}
 use Rattle.ac_parse.proofs.Scan.{Between, InComment, InWord, InDigits, AfterSign, Turn, word_token, number_token, sign_token, begin, behind, in_word, in_digits, in_comment, with_next, before, scan}
 
 abbrev go_on : Turn → ℕ → List ℕ → Result (List Token) ℕ
@@ -156,3 +160,65 @@ whole_cut {ts = ts} n d = scanned d ∙ ap Ok (append-nil ts)
 -- a text is cut into tokens in one way at most
 pub cut_once : {bytes : List ℕ} {ts us : List Token} → IsCutInto bytes ts → IsCutInto bytes us → ts ≡ us
 cut_once c d = let p = whole_cut c.end_ c.cut in let q = whole_cut d.end_ d.cut in cc
+
+-- a fault excludes a cut of the whole text within the limits
+
+stray_scans : (at b : ℕ) (k : ByteKind) (rest : List ℕ) → IsStray k rest → go_on (begin at b k) at rest ≡ Err at
+stray_scans at b Underscore rest f = refl
+stray_scans at b At rest f = refl
+stray_scans at b Other rest f = refl
+stray_scans at b Dot [] f = refl
+stray_scans at b Dot (c ∷ rest) f =
+    before_nil (scan (AfterSign at Dot) (at + 1) (c ∷ rest)) ∙ ap (λ o. go_on (with_next o at Dot (at + 1) (begin (at + 1) c (kind_of c))) (at + 1) rest) f
+stray_scans at b _ rest f = absurd f
+
+zero_kind : kind_of 48 ≡ Digit
+unfolding kind_of
+zero_kind = refl
+
+zero_scans : (at b : ℕ) (rest : List ℕ) → b ≡ 48 → BeginsWithDigit rest → scan Between at (b ∷ rest) ≡ Err at
+zero_scans at b [] z f = absurd f
+zero_scans at b (c ∷ rest) z f =
+    let k : kind_of b ≡ Digit = ap kind_of z ∙ zero_kind in
+    let n : nat_eq b 48 ≡ true = ap (λ d. nat_eq d 48) z in
+    ap (λ k. go_on (begin at b k) at (c ∷ rest)) k
+    ∙ (before_nil (scan (InDigits at (b ∷ [])) (at + 1) (c ∷ rest))
+    ∙ (ap (λ k. go_on (in_digits at (b ∷ []) (at + 1) c k) (at + 1) rest) f
+    ∙ ap (λ (t : Bool). go_on (if t then Err at else Ok ([], InDigits at (b ∷ (c ∷ [])))) (at + 1) rest) n))
+
+fault_scans : (at : ℕ) (bytes : List ℕ) → IsFault bytes → scan Between at bytes ≡ Err at
+fault_scans at [] f = absurd f
+fault_scans at (b ∷ rest) f = elim f [ inl g ↦ stray_scans at b (kind_of b) rest g | inr z ↦ zero_scans at b rest z.0 z.1 ]
+
+-- an Ok of what follows is one of the whole
+before_ok : (ts us : List Token) (r : Result (List Token) ℕ) → before ts r ≡ Ok us → (vs : List Token) × (us ≡ ts ++ vs)
+before_ok ts us (Ok vs) e = let f : us ≡ ts ++ vs = cc in (vs, f)
+before_ok ts us (Err n) e = absurd (cc)
+
+within_part : (ts vs : List Token) (t : Token) → AreWithinLimits (ts ++ t ∷ vs) → IsWithinLimits t.mark
+within_part [] vs t f = f.0
+within_part (u ∷ ts) vs t f = within_part ts vs t f.1
+
+too_large : {bytes left rest : List ℕ} {ts us : List Token} {place to : ℕ} (t : Token) → Cut 0 bytes ts place left → Cut place left (t ∷ []) to rest → IsTokenized bytes us → IsWithinLimits t.mark
+too_large {rest = rest} {ts = ts} {us = us} {to = to} t c d w =
+    let joined : scan Between 0 _ ≡ before (ts ++ t ∷ []) (scan Between to rest) = scanned (cut_joined c d) in
+    let whole = whole_cut w.cut.end_ w.cut.cut in
+    let known = before_ok (ts ++ t ∷ []) us (scan Between to rest) (sym joined ∙ whole) in
+    within_part ts known.0 t (subst AreWithinLimits (known.1 ∙ append_assoc ts (t ∷ []) known.0) w.within)
+
+pub fault_excludes : {bytes : List ℕ} {us : List Token} (f : TokenFault) → (f ≡ fault.OutOfMemory → ⊥) → IsFirstFault bytes f → IsTokenized bytes us → ⊥
+fault_excludes (fault.Token at) k f w =
+    let whole = whole_cut w.cut.end_ w.cut.cut in
+    let failed = scanned f.cut ∙ ap (before f.tokens) (fault_scans f.place f.left f.faults.1) in
+    cc
+fault_excludes (fault.Literal at) k f w =
+    let h = f.faults.1 in
+    let small : h.0 ≤ 1000000000000 = too_large _ f.cut h.4 w in
+    let big : 1000000000000 < h.0 = h.3 in
+    omega arith
+fault_excludes (fault.Name at) k f w =
+    let h = f.faults.1 in
+    let small : length h.0 ≤ 32 = too_large _ f.cut h.4 w in
+    let big : 32 < length h.0 = h.3 in
+    omega arith
+fault_excludes fault.OutOfMemory k f w = k refl
