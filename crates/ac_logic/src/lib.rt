@@ -2,11 +2,14 @@
 #![tactic(auto, unfolding(crate::specs::Opened::formula_shape, crate::specs::Opened::formula_child, crate::specs::Opened::term_shape, crate::specs::Opened::term_child, crate::specs::Opened::array_shape, crate::specs::Opened::array_child, crate::specs::Opened::hidden))]
 
 mod condition;
+mod equality;
 mod formula;
 mod label;
 mod laws;
+mod renewal;
 
 pub use condition::{Annotation, Condition};
+pub use equality::{same, same_array, same_symbol, same_term};
 pub use formula::{ArrayTerm, Change, Formula, Sym, Term};
 pub use label::{Label, LabelKind};
 pub use laws::{absent_change_law, change_law, environment_law, opening_law, two_valued_law};
