@@ -3,3 +3,5 @@ pub mod Stable
 pub mod Environment
 pub mod Changes
 pub mod Openings
+pub mod Puts
+pub mod Substituted

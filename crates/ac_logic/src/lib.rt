@@ -7,9 +7,11 @@ mod formula;
 mod label;
 mod laws;
 mod renewal;
+mod substitution;
 
 pub use condition::{Annotation, Condition};
 pub use equality::{same, same_array, same_symbol, same_term};
 pub use formula::{ArrayTerm, Change, Formula, Sym, Term};
 pub use label::{Label, LabelKind};
 pub use laws::{absent_change_law, change_law, environment_law, opening_law, two_valued_law};
+pub use substitution::substitute;
