@@ -5,3 +5,4 @@ pub mod Changes
 pub mod Openings
 pub mod Puts
 pub mod Substituted
+pub mod Saturation

@@ -58,12 +58,12 @@ pub fn depth(formula: &Formula) -> u64
     match formula {
         Formula::True => 1,
         Formula::False => 1,
-        Formula::Le(s, t) => above(term_depth(s.get()).max(term_depth(t.get()))),
-        Formula::Eq(s, t) => above(term_depth(s.get()).max(term_depth(t.get()))),
+        Formula::Le(s, t) => above(larger(term_depth(s.get()), term_depth(t.get()))),
+        Formula::Eq(s, t) => above(larger(term_depth(s.get()), term_depth(t.get()))),
         Formula::Not(f) => above(depth(f.get())),
-        Formula::And(f, g) => above(depth(f.get()).max(depth(g.get()))),
-        Formula::Or(f, g) => above(depth(f.get()).max(depth(g.get()))),
-        Formula::Implies(f, g) => above(depth(f.get()).max(depth(g.get()))),
+        Formula::And(f, g) => above(larger(depth(f.get()), depth(g.get()))),
+        Formula::Or(f, g) => above(larger(depth(f.get()), depth(g.get()))),
+        Formula::Implies(f, g) => above(larger(depth(f.get()), depth(g.get()))),
         Formula::All(f) => above(depth(f.get())),
         Formula::Lab(_, f) => above(depth(f.get())),
     }
@@ -77,10 +77,10 @@ fn term_depth(term: &Term) -> u64
         Term::Num(_) => 1,
         Term::Sym(_) => 1,
         Term::Bound(_) => 1,
-        Term::Read(a, i, j) => above(array_depth(a.get()).max(term_depth(i.get())).max(term_depth(j.get()))),
-        Term::Add(s, t) => above(term_depth(s.get()).max(term_depth(t.get()))),
-        Term::Sub(s, t) => above(term_depth(s.get()).max(term_depth(t.get()))),
-        Term::Mul(s, t) => above(term_depth(s.get()).max(term_depth(t.get()))),
+        Term::Read(a, i, j) => above(larger(larger(array_depth(a.get()), term_depth(i.get())), term_depth(j.get()))),
+        Term::Add(s, t) => above(larger(term_depth(s.get()), term_depth(t.get()))),
+        Term::Sub(s, t) => above(larger(term_depth(s.get()), term_depth(t.get()))),
+        Term::Mul(s, t) => above(larger(term_depth(s.get()), term_depth(t.get()))),
         Term::Neg(t) => above(term_depth(t.get())),
     }
 }
@@ -92,8 +92,8 @@ fn array_depth(array: &ArrayTerm) -> u64
     match array {
         ArrayTerm::Sym(_) => 1,
         ArrayTerm::Put(a, i, j, v) => {
-            let indexes = array_depth(a.get()).max(term_depth(i.get())).max(term_depth(j.get()));
-            above(indexes.max(term_depth(v.get())))
+            let indexes = larger(larger(array_depth(a.get()), term_depth(i.get())), term_depth(j.get()));
+            above(larger(indexes, term_depth(v.get())))
         }
     }
 }
@@ -109,4 +109,10 @@ fn plus(left: u64, right: u64) -> u64
     ensures { result ≡ saturated (left + right) }
 {
     left.saturating_add(right)
+}
+
+fn larger(left: u64, right: u64) -> u64
+    ensures { result ≡ max left right }
+{
+    left.max(right)
 }
