@@ -1,5 +1,5 @@
 -- How the tokens of a straight program make its tree.
-use Rattle.std.specs.Prelude.{◌≡◌, ℕ, ◌+◌, ◌*◌, ◌≤◌, List, [], ◌∷◌, ◌++◌, length, map, All, IsTrue, Bool, true, false}
+use Rattle.std.specs.Prelude.{◌≡◌, ℕ, ◌+◌, ◌*◌, ◌≤◌, ◌<◌, List, [], ◌∷◌, ◌++◌, length, map, All, IsTrue, Bool, true, false}
 use Rattle.std.specs.List.{flat_map}
 use Rattle.ac_tree.specs.declared.node.Span.{Span}
 use Rattle.ac_tree.specs.declared.node.Node.{Node}
@@ -116,6 +116,24 @@ NoDeclaration ms = (d : Declaration) (more : List Mark) → ms ≡ declaration_m
 
 abbrev pub NoAssignment : List Mark → Type 0
 NoAssignment ms = (a : Assignment) (more : List Mark) → ms ≡ assignment_marks a ++ more → ⊥
+
+-- these are all the declarations that the tokens begin with
+pub record AllDeclarations (tokens : Tokens) (items : List Item) (rest : Tokens) : Type 0 where
+  pub before : ItemsBefore tokens items rest
+  pub ended : NoDeclaration (marks rest)
+  pub few : length items ≤ 49999
+
+-- these are all the assignments that the tokens begin with
+pub record AllAssignments (first : ℕ) (tokens : Tokens) (body : List Stmt) (rest : Tokens) : Type 0 where
+  pub before : BodyBefore first tokens body rest
+  pub ended : NoAssignment (marks rest)
+  pub few : length body ≤ 1000
+
+abbrev pub TooManyDeclarations : Tokens → Type 0
+TooManyDeclarations tokens = (ds : List Declaration) (more : List Mark) → NoDeclaration more → marks tokens ≡ flat_map declaration_marks ds ++ more → 49999 < length ds
+
+abbrev pub TooManyAssignments : Tokens → Type 0
+TooManyAssignments tokens = (xs : List Assignment) (more : List Mark) → NoAssignment more → marks tokens ≡ flat_map assignment_marks xs ++ more → 1000 < length xs
 
 -- the tokens are those of this straight program, within the limits
 pub record IsRead (tokens : Tokens) (p : Program) : Type 0 where

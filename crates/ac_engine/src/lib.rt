@@ -5,5 +5,5 @@ mod heads;
 mod straight;
 mod words;
 
-pub use straight::declaration;
+
 pub use words::{Request, asked};
