@@ -39,7 +39,10 @@ pub(crate) fn straight(alloc: Global, tokens: &[Token]) -> Result<Option<Program
     let Some((last, rest)) = keyword(rest, Keyword::End) else {
         return Ok(None);
     };
-    if !rest.is_empty() || items.len() + 3 * body.len() > MOST_DECLARATIONS {
+    if !rest.is_empty() {
+        return Ok(None);
+    }
+    if items.len() + 3 * body.len() > MOST_DECLARATIONS {
         return Ok(None);
     }
     let span = joined(head.span, last);
