@@ -9,10 +9,13 @@
 mod files;
 mod host_files;
 mod host_out;
+mod mem_files;
 mod sink;
+mod stored_file;
 mod transfer;
 
 pub use files::{Files, LoadFault, SaveFault};
 pub use host_files::HostFiles;
 pub use host_out::HostOut;
+pub use mem_files::MemFiles;
 pub use sink::{Sink, SinkFault};

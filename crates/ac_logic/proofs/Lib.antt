@@ -1,0 +1,5 @@
+pub mod Types
+pub mod Stable
+pub mod Environment
+pub mod Changes
+pub mod Openings

@@ -4,7 +4,9 @@
 mod condition;
 mod formula;
 mod label;
+mod laws;
 
 pub use condition::{Annotation, Condition};
 pub use formula::{ArrayTerm, Change, Formula, Sym, Term};
 pub use label::{Label, LabelKind};
+pub use laws::{absent_change_law, change_law, environment_law, opening_law, two_valued_law};

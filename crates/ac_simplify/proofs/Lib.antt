@@ -1,0 +1,4 @@
+pub mod Replay
+pub mod Aims
+pub mod Places
+pub mod Holds
