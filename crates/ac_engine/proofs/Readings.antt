@@ -1,6 +1,7 @@
 -- Reading one more declaration or assignment, and where no more can be read.
 use Rattle.std.proofs.Common.{◌≡◌, ℕ, suc, ◌+◌, ◌*◌, ◌≤◌, List, [], ◌∷◌, ◌++◌, length, map, refl, ap, sym, ◌∙◌, subst, append_assoc, append-nil, length-append, get_or, ◌<◌, arith, rules}
 use Rattle.std.specs.List.{flat_map}
+use Rattle.std.proofs.lemmas.List.Elements.{All-nil, All-push}
 use Rattle.std.proofs.lemmas.List.Concat.{flat_map-append}
 use Rattle.ac_tree.specs.declared.node.Span.{Span}
 use Rattle.ac_tree.specs.declared.token.Keyword.TheVariants as keyword
@@ -26,7 +27,7 @@ use Rattle.ac_tree.specs.Grammar.SpellsBlock.{none as block_none, more as block_
 use Rattle.ac_tree.specs.Grammar.SpellsIndex.{one as index_one}
 use Rattle.ac_tree.specs.Numbering.{numbered_items, numbered_list, list_nodes, stmt_nodes, numbered_stmt}
 use Rattle.ac_engine.specs.Form.{Declaration, Assignment, Straight, marks, marks_of, declaration_marks, assignment_marks}
-use Rattle.ac_engine.specs.Reading.{BeginsWithDeclaration, BeginsWithAssignment, node_at, array_item, number_expr, put_stmt, ReadItems, ReadBody, ItemsBefore, BodyBefore, NoDeclaration, NoAssignment, TooManyDeclarations, TooManyAssignments, AllDeclarations, AllAssignments, NoneIsRead, IsRead, declaration_of, assignment_of}
+use Rattle.ac_engine.specs.Reading.{BeginsWithDeclaration, BeginsWithAssignment, node_at, array_item, number_expr, put_stmt, ReadItems, ReadBody, ItemsBefore, BodyBefore, NoDeclaration, NoAssignment, TooManyDeclarations, TooManyAssignments, AllDeclarations, AllAssignments, NoneIsRead, IsRead, IsArray, IsPut, declaration_of, assignment_of}
 use Rattle.ac_engine.specs.Opened.{hidden, expr_shape, expr_child}
 
 pub map-snoc : {A B : Type 0} (f : A → B) (xs : List A) (y : A) → map f (xs ++ y ∷ []) ≡ map f xs ++ f y ∷ []
@@ -76,7 +77,8 @@ more_items tokens items rest x n span after before next =
           tree = before.items_are.tree ++ declaration whole x (VarArray (One (Lit n))) ∷ [];
           spelled = spells_items-snoc before.items_are.spelled (items_more (var_array x next.first next.named next.last (extents_one next.opened next.closed (fixed n next.counted))) items_none);
           numbers = ap (λ (is : List Item). is ++ array_item (1 + length items) x n whole ∷ []) before.items_are.numbers ∙ sym (numbered_items-snoc 1 (1 + length items) before.items_are.tree _ (omega (arith, ap length before.items_are.numbers, length-numbered 1 before.items_are.tree)));
-          form = form-snoc declaration_marks declaration_of items (array_item (1 + length items) x n whole) before.read six before.items_are.form refl
+          form = form-snoc declaration_marks declaration_of items (array_item (1 + length items) x n whole) before.read six before.items_are.form refl;
+          arrays = All-push IsArray items (array_item (1 + length items) x n whole) before.items_are.arrays refl
         }
       })
 
@@ -118,6 +120,10 @@ put_form : (k : ℕ) (x : Word) (i v : ℕ) (span indexed valued : Span) →
 unfolding hidden expr_shape expr_child
 put_form k x i v span indexed valued = refl
 
+put_is : (k : ℕ) (x : Word) (i v : ℕ) (span indexed valued : Span) → IsPut (put_stmt k x i v span indexed valued)
+unfolding hidden expr_shape expr_child
+put_is k x i v span indexed valued = refl
+
 pub more_body : (first : ℕ) (tokens : Tokens) (body : List Stmt) (rest : Tokens) (x : Word) (i v : ℕ) (span indexed valued : Span) (after : Tokens) →
     BodyBefore first tokens body rest → BeginsWithAssignment rest x i v span indexed valued after →
     BodyBefore first tokens (body ++ put_stmt (first + 3 * length body) x i v span indexed valued ∷ []) after
@@ -138,7 +144,8 @@ more_body first tokens body rest x i v span indexed valued after before next =
           numbers = ap (λ (xs : List Stmt). xs ++ put_stmt k x i v whole indexed valued ∷ []) before.body_is.numbers
             ∙ sym (numbered_list-snoc first k tree st (omega (arith, before.body_is.nodes)) ∙ ap (λ (z : Stmt). numbered_list first tree ++ z ∷ []) (put_numbered k x i v whole indexed valued));
           nodes = omega (arith, list_nodes-snoc tree st, put_nodes x i v whole indexed valued, before.body_is.nodes, length-append body (put_stmt k x i v whole indexed valued ∷ []));
-          form = form-snoc assignment_marks assignment_of body (put_stmt k x i v whole indexed valued) before.read seven before.body_is.form (ap assignment_marks (sym (put_form k x i v whole indexed valued)))
+          form = form-snoc assignment_marks assignment_of body (put_stmt k x i v whole indexed valued) before.read seven before.body_is.form (ap assignment_marks (sym (put_form k x i v whole indexed valued)));
+          puts = All-push IsPut body (put_stmt k x i v whole indexed valued) before.body_is.puts (put_is k x i v whole indexed valued)
         }
       })
 
@@ -192,10 +199,10 @@ at_most_assignments (d ∷ ds) [] r s k e = absurd (k d (flat_map assignment_mar
 at_most_assignments (d ∷ ds) (b ∷ es) r s k e = omega (arith, at_most_assignments ds es r s k (cc))
 
 pub no_items : (tokens : Tokens) → ItemsBefore tokens [] tokens
-no_items tokens = record { read = []; split = refl; items_are = record { tree = []; spelled = items_none; numbers = refl; form = refl } }
+no_items tokens = record { read = []; split = refl; items_are = record { tree = []; spelled = items_none; numbers = refl; form = refl; arrays = All-nil IsArray } }
 
 pub no_body : (first : ℕ) (tokens : Tokens) → BodyBefore first tokens [] tokens
-no_body first tokens = record { read = []; split = refl; body_is = record { tree = []; spelled = block_none; numbers = refl; nodes = refl; form = refl } }
+no_body first tokens = record { read = []; split = refl; body_is = record { tree = []; spelled = block_none; numbers = refl; nodes = refl; form = refl; puts = All-nil IsPut } }
 
 pub shorter_declaration : (tokens : Tokens) (x : Word) (n : ℕ) (span : Span) (rest : Tokens) → BeginsWithDeclaration tokens x n span rest → length rest < length tokens
 shorter_declaration tokens x n span rest next = omega (arith, ap length next.split)
@@ -338,6 +345,7 @@ is_read tokens items rest b left first body behind l more head node all begins r
       numbers = same_program _ _ _ _ _ _ (made ∙ ap (λ (s : Span). node_at 0 (join s l)) first_is) ds.numbers (xs.numbers ∙ ap (λ (i : ℕ). numbered_list i xs.tree) counted);
       form = items_form tokens items rest all.before ∙ ap (λ (ms : List Mark). flat_map declaration_marks (map declaration_of items) ++ ms)
         (ap marks begins ∙ ap (λ (ms : List Mark). Keyword keyword.Begin ∷ ms) (body_form first left body behind read.before ∙ ap (λ (ms : List Mark). flat_map assignment_marks (map assignment_of body) ++ ms) (ap marks last)));
+      straight_ = record { arrays = ds.arrays; puts = xs.puts };
       limits = record { assignments = omega (arith, read.few, length-mapped assignment_of body); nodes = omega (arith, length-mapped declaration_of items, length-mapped assignment_of body) }
     }
 
