@@ -1,0 +1,12 @@
+//! The top call.
+#![tactic(auto, unfolding(crate::specs::Opened::expr_shape, crate::specs::Opened::expr_child, crate::specs::Opened::hidden))]
+
+mod heads;
+mod names;
+mod policy;
+mod report;
+mod status;
+mod straight;
+mod words;
+
+pub use status::Status;
