@@ -1,2 +1,4 @@
 pub mod FirstFaults
 mod SpelledRows
+pub mod Added
+pub mod AddedNodes

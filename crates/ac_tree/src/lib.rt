@@ -8,9 +8,9 @@
 mod limit;
 mod name;
 mod node;
+mod node_positions;
 mod path;
 mod policy;
-mod positions;
 mod program;
 mod static_rules;
 mod token;
@@ -18,12 +18,12 @@ mod token;
 pub use limit::LimitKind;
 pub use name::Name;
 pub use node::{Node, NodeId, Span};
+pub use node_positions::{Position, positions};
 pub use path::{Cut, Pair, Place, Target};
 pub use policy::PolicyName;
-pub use positions::Position;
 pub use program::{
     Cond, CondKind, Expr, ExprKind, Extent, Extents, Index, Item, ItemKind, Program, RelOp, Stmt,
     StmtKind,
 };
-pub use static_rules::StaticFault;
+pub use static_rules::{StaticFault, check_static};
 pub use token::{ByteKind, Keyword, Mark, Sign, Token};
