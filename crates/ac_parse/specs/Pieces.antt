@@ -1,4 +1,4 @@
--- Cutting piece by piece: a blank, a comment or a token at a place.
+-- No promise rests on this file: it says how the code cuts a text piece by piece, each a blank, a comment or a token.
 use Rattle.std.specs.Prelude.{ℕ, ◌-◌, ◌≤◌, ◌<◌, List, [], ◌∷◌, length, take, drop, Option, None}
 use Rattle.std.specs.Option.{option_to_list}
 use Rattle.ac_tree.specs.declared.token.Sign.{Sign}

@@ -1,5 +1,5 @@
 -- Steps that add positions, one after the other.
-use Rattle.std.proofs.Common.{◌≡◌, ℕ, ◌+◌, ◌-◌, ◌<◌, List, [], ◌∷◌, ◌++◌, length, set, refl, ap, sym, ◌∙◌, subst, append_assoc, length-append, append-nil, arith}
+use Rattle.std.proofs.Common.{◌≡◌, ℕ, ◌+◌, ◌-◌, ◌<◌, List, [], ◌∷◌, ◌++◌, length, set, ap, sym, ◌∙◌, append_assoc, length-append, append-nil, arith}
 use Rattle.std.proofs.lemmas.List.{set_at, length_push}
 use Rattle.ac_tree.specs.declared.node_positions.Position.{Position}
 use Rattle.ac_tree.specs.declared.node_positions.Spot.{Spot}
@@ -12,11 +12,13 @@ adds-none xs = record { made = sym (append-nil xs) }
 pub adds-followed : (a b : Positions) (xs ys zs : List Position) → Adds a xs ys → Adds b ys zs → Adds (followed a b) xs zs
 adds-followed a b xs ys zs f g =
     let n : length ys ≡ length xs + length (a (length xs)) = ap length f.made ∙ length-append xs (a (length xs)) in
-    record { made =
-      g.made
-      ∙ (ap (λ (ws : List Position). ws ++ b (length ys)) f.made
-      ∙ (append_assoc xs (a (length xs)) (b (length ys))
-      ∙ ap (λ k. xs ++ (a (length xs) ++ b k)) n)) }
+    record {
+      made =
+          g.made
+          ∙ (ap (λ (ws : List Position). ws ++ b (length ys)) f.made
+          ∙ (append_assoc xs (a (length xs)) (b (length ys))
+          ∙ ap (λ k. xs ++ (a (length xs) ++ b k)) n));
+    }
 
 pub opened-inside : (s : Spot) (own : ℕ) (below : Positions) (xs ys zs : List Position) → Opens s own xs ys → Adds below ys zs → own < length zs
 opened-inside s own below xs ys zs f g =

@@ -1,4 +1,4 @@
--- What a step adds to the positions found so far.
+-- No promise rests on this file: it says what a step of the code adds to the positions found so far.
 use Rattle.std.specs.Prelude.{◌≡◌, ℕ, ◌-◌, List, [], ◌∷◌, ◌++◌, length, set}
 use Rattle.ac_tree.specs.declared.node_positions.Position.{Position}
 use Rattle.ac_tree.specs.declared.node_positions.Spot.{Spot}

@@ -22,6 +22,7 @@ use Rattle.ac_tree.specs.Patterns.{Negative, Plus, Minus, Times, At, Pair, Negat
 
 abbrev mutual
   unfolding hidden expr_shape expr_child
+
   pub expr_nodes : ExprKind → ℕ
   expr_nodes (Num k) = 1
   expr_nodes (Get x) = 1
@@ -73,6 +74,7 @@ at i n = record { id = record { 0 = i }; span = n.span }
 
 abbrev mutual
   unfolding hidden expr_shape expr_child
+
   pub numbered : ℕ → ExprKind → ExprKind
   numbered i (Num k) = Num k
   numbered i (Get x) = Get x

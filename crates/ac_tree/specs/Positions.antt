@@ -1,6 +1,5 @@
 -- Where each node stands, in preorder: the n-th position is that of the n-th node.
 use Rattle.std.specs.Prelude.{ℕ, ◌+◌, List, [], ◌∷◌, ◌++◌, length}
-use Rattle.ac_tree.specs.declared.node.NodeId.{NodeId}
 use Rattle.ac_tree.specs.declared.node_positions.Position.{Position}
 use Rattle.ac_tree.specs.declared.node_positions.Spot.{Spot}
 use Rattle.ac_tree.specs.declared.program.CondKind.{CondKind}
@@ -39,6 +38,7 @@ node_with s below i = position_of s (i + length (below i (i + 1))) ∷ below i (
 
 abbrev mutual
   unfolding hidden expr_shape expr_child
+
   pub expr_positions : ExprKind → Spot → Positions
   expr_positions (Num k) s = node_with s (λ own. no_node)
   expr_positions (Get x) s = node_with s (λ own. no_node)

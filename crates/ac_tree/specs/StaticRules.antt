@@ -27,53 +27,53 @@ use Rattle.ac_tree.specs.Patterns.{Negative, Plus, Minus, Times, At, Pair, Negat
 abbrev pub Word : Type 0
 Word = List ℕ
 
--- The rules.
+-- The rules by their numbers, each by what breaks it.
 
--- a name is declared at most once
+-- an earlier declaration has the name
 abbrev pub redeclared_name : ℕ
 redeclared_name = 1
 
--- a name is declared, and one in an extent earlier
+-- no declaration has the name; where an extent names it, none before
 abbrev pub undeclared_name : ℕ
 undeclared_name = 2
 
--- a scalar has no index
+-- an index stands at a name without extents
 abbrev pub indexed_scalar : ℕ
 indexed_scalar = 3
 
--- an array has as many indexes as extents
+-- an array has more or fewer indexes than extents
 abbrev pub wrong_indexes : ℕ
 wrong_indexes = 4
 
--- a constant is never assigned
+-- a constant is assigned; a `for` assigns its variable
 abbrev pub assigned_constant : ℕ
 assigned_constant = 5
 
--- an input is never assigned
+-- an input is assigned
 abbrev pub assigned_input : ℕ
 assigned_input = 6
 
--- a range has lo <= hi
+-- the first number of a range is above the second
 abbrev pub empty_range : ℕ
 empty_range = 7
 
--- an extent is a literal from 1 up, a constant from 0 up, or a scalar input with lo from 0 up
+-- an extent is the literal 0, a negative constant, an input that may be negative, or no constant and no scalar input
 abbrev pub bad_extent : ℕ
 bad_extent = 8
 
--- the variable of a `for` is a scalar `var`
+-- a `for` has another variable than a scalar `var`
 abbrev pub bad_loop_variable : ℕ
 bad_loop_variable = 9
 
--- the body of a `for` doesn't assign its variable
+-- a statement inside a `for` assigns the variable of that `for`
 abbrev pub assigned_loop_variable : ℕ
 assigned_loop_variable = 10
 
--- the body of a `for` assigns no name that lo or hi reads
+-- a statement inside a `for` assigns a name that a bound of that `for` reads
 abbrev pub assigned_loop_bound : ℕ
 assigned_loop_bound = 11
 
--- lo and hi don't read the variable of their `for`
+-- a bound of a `for` reads its own variable
 abbrev pub loop_reads_variable : ℕ
 loop_reads_variable = 12
 
@@ -151,6 +151,7 @@ items_faults before (d ∷ ds) = item_faults before d ++ items_faults (before ++
 
 -- Expressions.
 
+-- a declared name with so many indexes
 abbrev pub index_tests : (extents indexes : ℕ) → List (ℕ × Bool)
 index_tests extents indexes =
     (indexed_scalar, nat_eq extents 0 && not (nat_eq indexes 0))

@@ -159,7 +159,7 @@ fn operand(parent: u32, place: u32) -> Spot
     }
 }
 
-#[tactic(auto, using(crate::proofs::Added::added_rules))]
+#[tactic(auto, unfolding(crate::specs::Opened::hidden, crate::specs::Opened::cond_shape, crate::specs::Opened::cond_child))]
 fn add_cond(found: &mut Vec<Position>, spot: Spot, cond: &Cond) -> Result<(), AllocError>
     ensures { OnOk result (Adds (cond_positions cond.now.kind spot) found.old.items found.new.items) }
 {
@@ -292,7 +292,7 @@ fn add_items(found: &mut Vec<Position>, first: Spot, items: &[Item]) -> Result<(
     ensures { OnOk result (Adds (items_positions items.now first) found.old.items found.new.items) }
 {
     let mut spot = first;
-    for _ in items {
+    for _item in items {
         add_leaf(found, spot)?;
         spot = next_to(spot)?;
     }
