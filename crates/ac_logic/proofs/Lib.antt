@@ -6,3 +6,4 @@ pub mod Openings
 pub mod Puts
 pub mod Substituted
 pub mod Saturation
+pub mod Reaches

@@ -11,11 +11,12 @@ mod laws;
 mod listing;
 mod measure;
 mod opening;
+mod readable;
 mod renewal;
 mod substitution;
 
 pub use absence::{is_absent, is_absent_in_array, is_absent_in_term};
-pub use closed::is_term_closed;
+pub use closed::{are_changes_closed, is_closed, is_term_closed};
 pub use condition::{Annotation, Condition};
 pub use equality::{same, same_array, same_symbol, same_term};
 pub use formula::{ArrayTerm, Change, Formula, Sym, Term};
@@ -24,4 +25,5 @@ pub use laws::{absent_change_law, change_law, environment_law, opening_law, two_
 pub use listing::labels;
 pub use measure::{depth, size};
 pub use opening::open_body;
+pub use readable::{is_readable, is_readable_term};
 pub use substitution::substitute;
