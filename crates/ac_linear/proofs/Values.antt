@@ -24,18 +24,18 @@ use Rattle.ac_linear.specs.LinearValue.{parts_value, linear_value}
 use Rattle.ac_linear.proofs.Ring.{add_mul, mul_assoc, mul_add, one_mul, minus_one_mul}
 use Rattle.ac_linear.proofs.Equal.{term_same}
 
-then_some : {A B : Type 0} (o : Option A) (f : A → Option B) (P : B → Type 0) → ((x : A) → o ≡ Some x → IfSome (f x) P) → IfSome (and_then o f) P
+pub then_some : {A B : Type 0} (o : Option A) (f : A → Option B) (P : B → Type 0) → ((x : A) → o ≡ Some x → IfSome (f x) P) → IfSome (and_then o f) P
 then_some None f P h = tt
 then_some (Some x) f P h = h x refl
 
-map_some : {A B : Type 0} (o : Option A) (f : A → B) (P : B → Type 0) → ((x : A) → o ≡ Some x → P (f x)) → IfSome (option_map f o) P
+pub map_some : {A B : Type 0} (o : Option A) (f : A → B) (P : B → Type 0) → ((x : A) → o ≡ Some x → P (f x)) → IfSome (option_map f o) P
 map_some None f P h = tt
 map_some (Some x) f P h = h x refl
 
 pub said : {A : Type 0} (o : Option A) (x : A) (P : A → Type 0) → o ≡ Some x → IfSome o P → P x
 said o x P e h = let Q : Option _ → Type 0 = (λ y. IfSome y P) in subst Q e h
 
-weaker : {A : Type 0} (o : Option A) (P Q : A → Type 0) → ((x : A) → P x → Q x) → IfSome o P → IfSome o Q
+pub weaker : {A : Type 0} (o : Option A) (P Q : A → Type 0) → ((x : A) → P x → Q x) → IfSome o P → IfSome o Q
 weaker None P Q h i = tt
 weaker (Some x) P Q h i = h x i
 
@@ -233,3 +233,6 @@ module _ (w : Valuation) (e : List ℤ) where
 
   pub normal_value : (t : Term) → IfSome (normal_of t) (λ l. linear_value w e l ≡ value w e t)
   normal_value t = map_some (form_of t) linear_of (λ l. linear_value w e l ≡ value w e t) (λ x h. linear_form x ∙ said (form_of t) x _ h (form_has_value t))
+
+pub normal_has_value : (w : Valuation) (e : List ℤ) (t : Term) (l : Linear) → normal_of t ≡ Some l → linear_value w e l ≡ value w e t
+normal_has_value w e t l h = said (normal_of t) l _ h (normal_value w e t)
