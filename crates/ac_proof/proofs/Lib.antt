@@ -1,0 +1,5 @@
+pub mod Numbers
+pub mod Truth
+pub mod Trees
+pub mod Contexts
+pub mod Bodies

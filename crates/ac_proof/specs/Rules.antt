@@ -63,14 +63,29 @@ IsInstance hs EqSplit g ps = (s : Term) × (t : Term) × (g ≡ equal_or_apart s
 IsInstance hs ReadPut g ps = (a : ArrayTerm) × (i : Term) × (j : Term) × (v : Term) × (k : Term) × (l : Term) × (g ≡ cell_of_put a i j v k l) × (ps ≡ [])
 IsInstance hs ReadSame g ps = (a : ArrayTerm) × (i : Term) × (j : Term) × (k : Term) × (l : Term) × (g ≡ Eq (Read a i j) (Read a k l)) × (ps ≡ Eq i k ∷ Eq j l ∷ [])
 
--- The hypotheses that each premise has besides those of the goal, for the rules that add any.
-abbrev pub contexts : Rule → Formula → List Formula → List (List Formula)
+-- the two sides of the disjunction that is to be split, for the second and third premise
+abbrev pub sides : List Formula → List (List Formula)
 unfolding hidden formula_shape formula_child
-contexts OrElim g (Disjunction a b ∷ ps) = [] ∷ (a ∷ []) ∷ (b ∷ []) ∷ []
-contexts ImpliesIntro (Implication a b) ps = (a ∷ []) ∷ []
-contexts NotIntro (Negation a) ps = (a ∷ []) ∷ []
+sides (Disjunction a b ∷ ps) = [] ∷ (a ∷ []) ∷ (b ∷ []) ∷ []
+sides _ = []
+
+abbrev pub antecedent : Formula → List (List Formula)
+unfolding hidden formula_shape formula_child
+antecedent (Implication a b) = (a ∷ []) ∷ []
+antecedent _ = []
+
+abbrev pub denied : Formula → List (List Formula)
+unfolding hidden formula_shape formula_child
+denied (Negation a) = (a ∷ []) ∷ []
+denied _ = []
+
+-- The hypotheses that each premise has besides those of the goal.
+abbrev pub contexts : Rule → Formula → List Formula → List (List Formula)
+contexts OrElim g ps = sides ps
+contexts ImpliesIntro g ps = antecedent g
+contexts NotIntro g ps = denied g
 contexts Classical g ps = (Not g ∷ []) ∷ []
-contexts _ _ _ = []
+contexts _ g ps = []
 
 -- those of premise number i
 abbrev pub added : Rule → Formula → List Formula → ℕ → List Formula
