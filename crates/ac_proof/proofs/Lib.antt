@@ -3,3 +3,4 @@ pub mod Truth
 pub mod Trees
 pub mod Contexts
 pub mod Bodies
+pub mod Gatherings

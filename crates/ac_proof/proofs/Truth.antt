@@ -25,9 +25,10 @@ use Rattle.ac_proof.specs.declared.rule.Rule.{Rule}
 use Rattle.ac_proof.specs.declared.rule.Rule.TheVariants.{Hyp, TrueIntro, FalseElim, AndIntro, AndLeft, AndRight, OrLeft, OrRight, OrElim, ImpliesIntro, ImpliesElim, NotIntro, NotElim, Classical, AllIntro, AllElim, LabIntro, LabElim, Linear, EqLe, LeTotal, EqSplit, ReadPut, ReadSame}
 use Rattle.ac_proof.specs.Opened.{hidden, formula_shape, formula_child, term_shape, term_child, array_shape, array_child}
 use Rattle.ac_proof.specs.New.{IsNew}
-use Rattle.ac_proof.specs.Rules.{IsInstance, added, next, in_order, equal_or_apart, cell_of_put}
+use Rattle.ac_proof.specs.Rules.{IsInstance, added, in_order, equal_or_apart, cell_of_put}
 use Rattle.ac_proof.specs.declared.tree.ProofTree.{ProofTree, ProofTree', Row_of-ProofTree, end_of-ProofTree, more_of-ProofTree}
 use Rattle.ac_proof.specs.Checked.{goal_of, goals, Checked, EachChecked}
+use Rattle.ac_proof.specs.Linear.{IsLinear}
 use Rattle.ac_proof.specs.Soundness.{HoldAll, Follows}
 use Rattle.ac_proof.proofs.Numbers as numbers
 
@@ -167,6 +168,9 @@ module _ (hs : List Formula) where
   unfolding formula_shape formula_child term_shape term_child array_shape array_child hidden
   read_same a i j k l each w h = λ m. table_of w [] a (each.0 w (plus w hs [] h tt) m) (each.1.0 w (plus w hs [] h tt) m)
 
+linear : (hs : List Formula) (factors : List ℕ) (g : Formula) (ps : List Formula) → IsLinear factors g ps → Keeps hs (Linear factors) g ps
+linear hs factors g ps s = ?
+
 instance_sound : (hs : List Formula) (r : Rule) (g : Formula) (ps : List Formula) → IsInstance hs r g ps → EachFollows hs r g ps 0 ps → Follows hs g
 unfolding formula_shape formula_child term_shape term_child array_shape array_child hidden
 instance_sound hs (Hyp n) g ps s = λ each w h. nth w hs n g s.1 h
@@ -187,7 +191,7 @@ instance_sound hs (AllIntro k) g ps s = along hs (AllIntro k) s.1 s.2 (all_intro
 instance_sound hs (AllElim t) g ps s = along hs (AllElim t) s.1 s.2 (all_elim hs t s.0 s.3)
 instance_sound hs LabIntro g ps s = along hs LabIntro s.2 s.3 (lab_intro hs s.0 s.1)
 instance_sound hs LabElim g ps s = along hs LabElim {g = g} refl s.1 (lab_elim hs g s.0)
-instance_sound hs (Linear factors) g ps s = absurd s
+instance_sound hs (Linear factors) g ps s = linear hs factors g ps s
 instance_sound hs EqLe g ps s = ⊎_elim (λ e. along hs EqLe e s.2 (eq_le hs s.0 s.1)) (λ e. along hs EqLe e s.2 (eq_ge hs s.0 s.1)) s.3
 instance_sound hs LeTotal g ps s = along hs LeTotal s.2 s.3 (le_total hs s.0 s.1)
 instance_sound hs EqSplit g ps s = along hs EqSplit s.2 s.3 (eq_split hs s.0 s.1)

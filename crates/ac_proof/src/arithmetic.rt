@@ -4,7 +4,8 @@ ghost use Rattle.ac_logic.specs.declared.formula.Term.{Num};
 ghost use Rattle.ac_logic.specs.declared.formula.Formula.{Le};
 ghost use Rattle.ac_logic.specs.declared.formula.Formula.TheVariants.{Or};
 ghost use Rattle.ac_proof.specs.declared.rule.Rule.TheVariants.{EqLe, LeTotal, EqSplit};
-ghost use Rattle.ac_proof.specs.Rules.{IsInstance, next};
+ghost use Rattle.ac_proof.specs.Rules.{IsInstance};
+ghost use Rattle.ac_proof.specs.Linear.{next};
 ghost use Rattle.ac_proof.specs.Checked.{goal_of};
 
 use crate::tree::ProofTree;

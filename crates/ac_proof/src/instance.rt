@@ -5,6 +5,7 @@ ghost use Rattle.ac_proof.specs.Checked.{HasReadableTerm, IsStep, goal_of};
 
 use crate::arithmetic::{is_eq_le, is_eq_split, is_le_total};
 use crate::array::{is_read_put, is_read_same};
+use crate::linear::is_linear;
 use crate::propositional::{
     is_and_intro, is_and_left, is_and_right, is_classical, is_false_elim, is_hyp, is_implies_elim,
     is_implies_intro, is_lab_elim, is_lab_intro, is_not_elim, is_not_intro, is_or_elim, is_or_left,
@@ -57,7 +58,7 @@ fn is_instance(alloc: Global, hyps: &[Shared<Formula>], rule: &Rule, goal: &Form
         Rule::AllElim { t } => is_all_elim(alloc, t, goal, premises),
         Rule::LabIntro => Ok(is_lab_intro(goal, premises)),
         Rule::LabElim => Ok(is_lab_elim(goal, premises)),
-        Rule::Linear { .. } => Ok(false),
+        Rule::Linear { factors } => is_linear(alloc, factors.as_slice(), goal, premises),
         Rule::EqLe => Ok(is_eq_le(goal, premises)),
         Rule::LeTotal => Ok(is_le_total(goal, premises)),
         Rule::EqSplit => Ok(is_eq_split(goal, premises)),

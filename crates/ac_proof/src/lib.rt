@@ -17,6 +17,7 @@ mod propositional;
 mod quantifier;
 mod rule;
 mod law;
+mod linear;
 mod tree;
 
 pub use certificate::{CertPart, Certificate, ProvedCondition};

@@ -5,3 +5,6 @@ returns-in-AllIntro c = rw c.in-AllIntro.is c.is_all_intro.ensures
 
 pub returns-in-AllElim : goal.returns-in-AllElim
 returns-in-AllElim c = rw c.in-AllElim.is c.is_all_elim.ensures
+
+pub returns-in-Linear : goal.returns-in-Linear
+returns-in-Linear c = rw c.in-Linear.is c.is_linear.ensures
