@@ -4,9 +4,10 @@ use Rattle.std.proofs.lemmas.List.{append_assoc}
 use Rattle.ac_logic.specs.declared.formula.Formula.{Formula}
 use Rattle.ac_linear.specs.declared.linear.Linear.{Linear}
 use Rattle.ac_linear.specs.NormalForm.{and_then}
-use Rattle.ac_proof.specs.declared.tree.ProofTree.{ProofTree}
+use Rattle.ac_proof.specs.declared.tree.ProofTree.{ProofTree, out-ProofTree}
 use Rattle.ac_proof.specs.Checked.{goal_of}
 use Rattle.ac_proof.specs.Linear.{fact, facts, denial, facts_of_step}
+use Rattle.ac_proof.proofs.Trees.{goal-out}
 use Rattle.ac_proof.specs.Gathering.{facts_behind}
 
 abbrev behind : List Linear → Option (List Linear) → Option (List Linear)
@@ -53,3 +54,10 @@ pub goals_from : (ts : List ProofTree) (i : ℕ) (t : ProofTree) → i < length 
 goals_from [] i t lt e = absurd (omega arith)
 goals_from (u ∷ ts) zero t lt e = ap (λ x. goal_of x ∷ map goal_of ts) (sym e)
 goals_from (u ∷ ts) (suc i) t lt e = let q : suc i + 1 ≡ suc (i + 1) = omega arith in goals_from ts i t (omega arith) e ∙ ap (λ n. goal_of t ∷ map goal_of (drop n (u ∷ ts))) (sym q)
+
+-- one premise more
+pub gathered : (ls : List Linear) (ts : List ProofTree) (i : ℕ) (t : ProofTree) (f : Formula) (o : Option (List Linear)) → i < length ts → t ≡ get_or ts i t → f ≡ (out-ProofTree t).goal → o ≡ facts_behind ls (f ∷ []) → and_then o (λ ms. facts_behind ms (map goal_of (drop (i + 1) ts))) ≡ facts_behind ls (map goal_of (drop i ts))
+gathered ls ts i t f o lt e g n =
+    let h : f ≡ goal_of t = g ∙ goal-out t in
+    ap (λ p. and_then p (λ ms. facts_behind ms (map goal_of (drop (i + 1) ts)))) (n ∙ ap (λ x. facts_behind ls (x ∷ [])) h)
+        ∙ (sym (facts_behind-cons ls (goal_of t) (map goal_of (drop (i + 1) ts))) ∙ ap (facts_behind ls) (sym (goals_from ts i t lt e)))

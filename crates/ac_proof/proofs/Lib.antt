@@ -1,4 +1,5 @@
 pub mod Numbers
+pub mod Combinations
 pub mod Truth
 pub mod Trees
 pub mod Contexts

@@ -28,9 +28,10 @@ use Rattle.ac_proof.specs.New.{IsNew}
 use Rattle.ac_proof.specs.Rules.{IsInstance, added, in_order, equal_or_apart, cell_of_put}
 use Rattle.ac_proof.specs.declared.tree.ProofTree.{ProofTree, ProofTree', Row_of-ProofTree, end_of-ProofTree, more_of-ProofTree}
 use Rattle.ac_proof.specs.Checked.{goal_of, goals, Checked, EachChecked}
-use Rattle.ac_proof.specs.Linear.{IsLinear}
+use Rattle.ac_proof.specs.Linear.{IsLinear, next}
 use Rattle.ac_proof.specs.Soundness.{HoldAll, Follows}
 use Rattle.ac_proof.proofs.Numbers as numbers
+use Rattle.ac_proof.proofs.Combinations.{no_contradiction}
 
 -- Lists of hypotheses.
 
@@ -168,8 +169,18 @@ module _ (hs : List Formula) where
   unfolding formula_shape formula_child term_shape term_child array_shape array_child hidden
   read_same a i j k l each w h = λ m. table_of w [] a (each.0 w (plus w hs [] h tt) m) (each.1.0 w (plus w hs [] h tt) m)
 
+-- a linear step adds no hypotheses
+premises_hold : (w : Valuation) (hs : List Formula) (factors : List ℕ) (g : Formula) (ps : List Formula) (i : ℕ) (qs : List Formula) → EachFollows hs (Linear factors) g ps i qs → HoldAll w hs → HoldAll w qs
+premises_hold w hs factors g ps i [] each h = tt
+premises_hold w hs factors g ps i (q ∷ qs) each h = (each.0 w (plus w hs [] h tt), premises_hold w hs factors g ps (i + 1) qs each.1 h)
+
 linear : (hs : List Formula) (factors : List ℕ) (g : Formula) (ps : List Formula) → IsLinear factors g ps → Keeps hs (Linear factors) g ps
-linear hs factors g ps s = ?
+unfolding formula_shape formula_child term_shape term_child array_shape array_child hidden
+linear hs factors False ps s each w h = no_contradiction w ps s.0 factors s.1 s.2 s.4 s.5 (premises_hold w hs factors False ps 0 ps each h)
+linear hs factors (Le x y) ps s each w h =
+    stable w [] (Le x y) (λ fails. numbers.in_order (value w [] x) (value w [] y) fails (λ above.
+        no_contradiction w (Le (next y) x ∷ ps) s.0 factors s.1 s.2 s.4 s.5 (above, premises_hold w hs factors (Le x y) ps 0 ps each h)))
+linear hs factors g ps s each w h = let e = s.2 in cc
 
 instance_sound : (hs : List Formula) (r : Rule) (g : Formula) (ps : List Formula) → IsInstance hs r g ps → EachFollows hs r g ps 0 ps → Follows hs g
 unfolding formula_shape formula_child term_shape term_child array_shape array_child hidden
