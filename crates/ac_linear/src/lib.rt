@@ -7,7 +7,9 @@
 #[allow(dead_code)]
 mod entry;
 mod fault;
+mod laws;
 mod linear;
 
 pub use fault::LinFault;
+pub use laws::{combination_law, normal_law};
 pub use linear::{Linear, Part};
