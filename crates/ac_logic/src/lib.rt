@@ -4,6 +4,8 @@
 mod condition;
 mod formula;
 mod label;
+mod mark;
+mod reader;
 
 pub use condition::{Annotation, Condition};
 pub use formula::{ArrayTerm, Change, Formula, Sym, Term};
