@@ -201,12 +201,17 @@ right_steps k b s r a x mark.Minus f = absurd f
 right_steps k b s r a x mark.Star f = absurd f
 right_steps k b s r a x _ f = refl
 
--- the right side of a relation, before anything but what goes on with a term
-right_leads : (k : Stack) (b : Before) (s : Term) (r : Relation) (a : Adding) (x : Term) (ts : Tokens) → Settled ts →
-    reads Formulas (frame.Right b s r ∷ k) (state.Product a x) ts ≡ reads Formulas k (part_read b (related r s (added a x))) ts
+right_ends : (g : Goal) (k : Stack) (b : Before) (s : Term) (r : Relation) (a : Adding) (x : Term) → ended g (frame.Right b s r ∷ k) (state.Product a x) ≡ ended g k (part_read b (related r s (added a x)))
 unfolding hidden term_shape term_child array_shape array_child
-right_leads k b s r a x [] f = refl
-right_leads k b s r a x (m ∷ ms) f = ap (λ o. goes Formulas o m ms) (right_steps k b s r a x m f)
+right_ends Terms [] b s r a x = refl
+right_ends Terms (f ∷ k) b s r a x = refl
+right_ends Formulas k b s r a x = refl
+
+-- the right side of a relation, before anything but what goes on with a term
+pub right_leads : (g : Goal) (k : Stack) (b : Before) (s : Term) (r : Relation) (a : Adding) (x : Term) (ts : Tokens) → Settled ts →
+    reads g (frame.Right b s r ∷ k) (state.Product a x) ts ≡ reads g k (part_read b (related r s (added a x))) ts
+right_leads g k b s r a x [] f = ap whole (right_ends g k b s r a x)
+right_leads g k b s r a x (m ∷ ms) f = ap (λ o. goes g o m ms) (right_steps k b s r a x m f)
 
 -- closing either stack comes to the same
 abbrev pub Alike : Stack → Formula → Stack → Formula → Type 0
@@ -242,7 +247,7 @@ formula_moves (g.relation {s = s} {ts = ts} {us = us} {rest = rest} r c d) = λ 
     let p = term_moves c Formulas (frame.Left b ∷ k) n tt in
     let q = term_moves d Formulas (frame.Right b s r ∷ k) n (settled_free rest h) in
     left_leads k b ts (term_begins c) ∙ (p.3 ∙ (ap (λ y. reads Formulas (frame.Right b y r ∷ k) (state.Factor fresh) us) p.2
-        ∙ (q.3 ∙ (right_leads k b s r q.0 q.1 rest h ∙ ap (λ y. reads Formulas k (part_read b (related r s y)) rest) q.2))))
+        ∙ (q.3 ∙ (right_leads Formulas k b s r q.0 q.1 rest h ∙ ap (λ y. reads Formulas k (part_read b (related r s y)) rest) q.2))))
 formula_moves (g.braces {rest = rest} d) = λ k n h b.
     let q = formula_moves d (frame.Braces b ∷ k) n tt in
     q.4 ∙ ap (λ o. goes Formulas o mark.CloseBrace rest) q.3.0

@@ -1,3 +1,4 @@
 mod Appends
 mod Complete
 mod Sound
+mod Refuse

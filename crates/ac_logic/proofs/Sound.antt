@@ -317,7 +317,7 @@ label_opens_has : (g : Goal) (k : Stack) (b : Before) (l : Label) (m : Mark) (ts
 label_opens_has g k b l mark.OpenBrace ts rest h = formula_due g (frame.Lab b l ∷ k) ts rest (h.1.0, h.0, h.1.1, h.1.2, h.2)
 label_opens_has g k b l _ ts rest h = tt
 
-step_has : (g : Goal) (k : Stack) (s : State) (m : Mark) (ts rest : Tokens) → Has g k s ts (m ∷ rest) → After g (stepped k s m) ts rest
+pub step_has : (g : Goal) (k : Stack) (s : State) (m : Mark) (ts rest : Tokens) → Has g k s ts (m ∷ rest) → After g (stepped k s m) ts rest
 step_has g k (state.Factor p) m ts rest h = factor_has g k p m ts rest h
 step_has g k (state.Fresh p) m ts rest h = fresh_has g k p m ts rest h
 step_has g k (state.InitWord s) m ts rest h = init_open_has g k s m ts rest h
@@ -397,7 +397,7 @@ reads_has g (m ∷ rest) k s ts h =
       | Some n ↦ λ i. reads_has g rest n.0 n.1 ts i ])
     (step_has g k s m ts rest h)
 
-begun_has : (g : Goal) (ts : Tokens) → Has g [] (begun g) ts ts
+pub begun_has : (g : Goal) (ts : Tokens) → Has g [] (begun g) ts ts
 begun_has Terms ts = (ts, refl, (ts, ts, refl, refl, refl))
 begun_has Formulas ts = (ts, refl, (ts, ts, refl, refl, refl))
 

@@ -145,3 +145,15 @@ pub record Continues (g : Goal) (ts : Tokens) : Type 0 where
   pub tree : Tree g
   pub more : Tokens
   pub spelled : IsTextOf g tree (ts ++ more)
+
+-- no text begins with these tokens and the next one, or these tokens are no whole text
+abbrev pub NoneGoesOn : Goal → Tokens → Tokens → Type 0
+NoneGoesOn g before [] = (t : Tree g) → IsTextOf g t before → ⊥
+NoneGoesOn g before (m ∷ after) = Continues g (before ++ m ∷ []) → ⊥
+
+-- behind the tokens before, the rest begins with the first at which none continues, or is the end
+pub record IsUnexpected (g : Goal) (ts rest : Tokens) : Type 0 where
+  pub before : Tokens
+  pub whole : ts ≡ before ++ rest
+  pub so_far : Continues g before
+  pub no_further : NoneGoesOn g before rest
