@@ -203,7 +203,7 @@ stops g [] k s all_ rest i h =
     let e = whole_stops (ended g k s) rest h in
     subst (λ q. StopsBehind g k s all_ [] q) (sym e.1) ([], refl, k, s, (λ more. refl), e.0, i)
 stops g (m ∷ ms) k s all_ rest i h =
-    (elim (stepped k s m) as (λ (o : Option Machine). o ≡ stepped k s m → After g o all_ ms → (elim o [ None ↦ Err (m ∷ ms) | Some n ↦ reads g n.0 n.1 ms ]) ≡ Err rest → StopsBehind g k s all_ (m ∷ ms) rest)
+    (elim (stepped k s m) as (λ (o : Option Machine). o ≡ stepped k s m → After g o all_ ms → ◌≡◌ {A = Result (Tree g) Tokens} (elim o [ None ↦ Err (m ∷ ms) | Some n ↦ reads g n.0 n.1 ms ]) (Err rest) → StopsBehind g k s all_ (m ∷ ms) rest)
       [ None ↦ λ u a e. let same : m ∷ ms ≡ rest = err_same {A = Tree g} (m ∷ ms) rest e in subst (λ q. StopsBehind g k s all_ (m ∷ ms) q) same ([], refl, k, s, (λ more. refl), sym u, i)
       | Some n ↦ λ u a e.
           let r = stops g ms n.0 n.1 all_ rest a e in

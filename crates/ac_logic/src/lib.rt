@@ -4,9 +4,11 @@
 mod condition;
 mod formula;
 mod label;
+mod laws;
 mod mark;
 mod reader;
 
 pub use condition::{Annotation, Condition};
 pub use formula::{ArrayTerm, Change, Formula, Sym, Term};
 pub use label::{Label, LabelKind};
+pub use laws::{absent_change_law, change_law, environment_law, opening_law, two_valued_law};

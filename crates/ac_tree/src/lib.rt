@@ -22,3 +22,4 @@ pub use program::{
     Cond, CondKind, Expr, ExprKind, Extent, Extents, Index, Item, ItemKind, Program, RelOp, Stmt,
     StmtKind,
 };
+pub use token::{ByteKind, Keyword, Mark, Sign, Token};

@@ -1,0 +1,4 @@
+pub mod Form
+pub mod Opened
+pub mod Reading
+pub mod Words

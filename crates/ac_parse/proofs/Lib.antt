@@ -1,0 +1,7 @@
+pub mod Paths
+pub mod ExpressionComplete
+pub mod ExpressionSound
+pub mod ExpressionEnds
+pub mod ConditionComplete
+pub mod ConditionSound
+pub mod ConditionEnds

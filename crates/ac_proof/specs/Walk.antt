@@ -1,0 +1,23 @@
+-- What the walk over a proof answers, and what it leaves in the path and the hypotheses.
+use Rattle.std.specs.Prelude.{◌≡◌, ℕ, List, ◌∷◌, ◌++◌, Bool, true, false, Some, slice_get, map}
+use Rattle.ac_logic.specs.declared.formula.Formula.{Formula}
+use Rattle.ac_proof.specs.declared.tree.ProofTree.{ProofTree, out-ProofTree}
+use Rattle.ac_proof.specs.Rules.{added}
+use Rattle.ac_proof.specs.Checked.{IsStep, goal_of, Checked, IsFirstFault}
+
+abbrev pub Walked : List Formula → ProofTree → List ℕ → List ℕ → Bool → Type 0
+Walked hs t old new true = Checked hs t × (new ≡ old)
+Walked hs t old new false = (fault : List ℕ) × IsFirstFault hs t fault × (new ≡ old ++ fault)
+
+-- the last step of a proof is one
+abbrev pub IsStepOf : List Formula → ProofTree → Type 0
+IsStepOf hs t = IsStep hs (out-ProofTree t).rule (out-ProofTree t).goal (map goal_of (out-ProofTree t).premises)
+
+-- Q holds of premise number i and its hypotheses
+abbrev pub PremiseIs : List Formula → ProofTree → ℕ → (List Formula → ProofTree → Type 0) → Type 0
+PremiseIs hs t i Q = (p : ProofTree) → slice_get (out-ProofTree t).premises i ≡ Some p → Q (hs ++ added (out-ProofTree t).rule (out-ProofTree t).goal (map goal_of (out-ProofTree t).premises) i) p
+
+-- the same of premise number i of a proof
+abbrev pub WalkedInto : List Formula → List Formula → List ℕ → List ℕ → ProofTree → ℕ → Bool → Type 0
+WalkedInto hs hs2 old new t i true = (hs2 ≡ hs) × (new ≡ old) × PremiseIs hs t i Checked
+WalkedInto hs hs2 old new t i false = (fault : List ℕ) × (new ≡ old ++ i ∷ fault) × PremiseIs hs t i (λ gs p. IsFirstFault gs p fault)

@@ -1,0 +1,2 @@
+pub mod WritesWithin
+pub mod Judging

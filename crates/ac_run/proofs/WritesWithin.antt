@@ -1,0 +1,114 @@
+-- A program that only writes literals within its arrays is safe.
+use Rattle.std.proofs.Common.{◌≡◌, ℕ, zero, suc, List, [], ◌∷◌, ◌++◌, ◌∙◌, map, Bool, true, false, Option, Some, refl, sym, subst, if◌then◌else◌, IsTrue, ◌&&◌, nat_le, ℤ, pos, rules, arith}
+use Rattle.std.specs.List.{AllByRecursion}
+use Rattle.std.proofs.lemmas.Bool.{false≢true}
+use Rattle.std.proofs.lemmas.List.Elements.{recursion_from_All}
+use Rattle.ac_tree.specs.declared.program.Program.{Program}
+use Rattle.ac_tree.specs.declared.program.Stmt.{Stmt}
+use Rattle.ac_tree.specs.declared.program.StmtKind.{StmtKind, Put}
+use Rattle.ac_tree.specs.declared.program.ExprKind.{ExprKind}
+use Rattle.ac_tree.specs.declared.program.ExprKind.TheVariants.{Num}
+use Rattle.ac_tree.specs.declared.program.ItemKind.{ItemKind}
+use Rattle.ac_tree.specs.declared.program.ItemKind.TheVariants.{VarArray}
+use Rattle.ac_tree.specs.declared.program.Extents.TheVariants.{One}
+use Rattle.ac_tree.specs.declared.program.Extent.TheVariants.{Lit}
+use Rattle.ac_tree.specs.Patterns.{At}
+use Rattle.ac_tree.specs.declared.policy.PolicyName.{PolicyName}
+use Rattle.ac_tree.specs.declared.policy.PolicyName.TheVariants.{Init, Bounds, Symm}
+use Rattle.ac_run.specs.declared.start.Start.{Start}
+use Rattle.ac_run.specs.declared.event.Cell.{Cell}
+use Rattle.ac_run.specs.declared.event.Event.{Event}
+use Rattle.ac_run.specs.declared.event.Event.TheVariants.{Write}
+use Rattle.ac_run.specs.Opened.{hidden, expr_shape, expr_child}
+use Rattle.ac_run.specs.Declarations.{Word, kind_of, shape_in}
+use Rattle.ac_run.specs.Memory.{is_within, is_inside, write}
+use Rattle.ac_run.specs.Evaluation.{pure, both, value_of}
+use Rattle.ac_run.specs.Run.{Task, Do, Config, with_reading, written, step_statement, step_first, step, run}
+use Rattle.ac_run.specs.Violation.{Bad}
+use Rattle.ac_run.specs.Safety.{Policies, Safe}
+use Rattle.ac_run.specs.StraightWrites.{is_literal, is_array_above, is_write_within, WritesWithin}
+
+from-zero : (i : ℕ) → nat_le 0 i ≡ true
+from-zero i = grind arith
+
+-- an index below the literal extent of an array is within it
+inside-kind : (p : Program) (start : Start) (i : ℕ) (kind : Option ItemKind) → IsTrue (is_array_above i kind) → is_within (shape_in p start kind) (pos i) (pos 0) ≡ true
+inside-kind p start i (Some (VarArray (One (Lit n)))) h = rw (h, from-zero i) refl
+inside-kind p start i _ h = absurd (false≢true h)
+
+all-snoc : {A : Type 0} (P : A → Type 0) (xs : List A) (x : A) → AllByRecursion P xs → P x → AllByRecursion P (xs ++ x ∷ [])
+all-snoc P [] x h k = (k, tt)
+all-snoc P (y ∷ xs) x h k = (h.0, all-snoc P xs x h.1 k)
+
+all-map : {A B : Type 0} (P : B → Type 0) (f : A → B) (xs : List A) → AllByRecursion (λ x. P (f x)) xs → AllByRecursion P (map f xs)
+all-map P f [] h = tt
+all-map P f (x ∷ xs) h = (h.0, all-map P f xs h.1)
+
+all-middle : {A : Type 0} (P : A → Type 0) (before : List A) (x : A) (after : List A) → AllByRecursion P (before ++ x ∷ after) → P x
+all-middle P [] x after h = h.0
+all-middle P (y ∷ before) x after h = all-middle P before x after h.1
+
+nil : (es : List Event) → es ++ [] ≡ es
+nil es = search rules
+
+module _ (p : Program) (start : Start) where
+  abbrev IsStraight : Task → Type 0
+  IsStraight (Do st) = IsTrue (is_write_within p st.kind)
+  IsStraight _ = ⊥
+
+  abbrev WritesInside : Event → Type 0
+  WritesInside (Write c n) = is_inside p start c ≡ true
+  WritesInside _ = ⊥
+
+  -- only straight writes are to be done, and only writes inside were done
+  abbrev Keeps : Config → Type 0
+  Keeps c = AllByRecursion IsStraight c.tasks × AllByRecursion WritesInside c.trace
+
+  written-keeps : (at : Cell) (n : ℤ) (c : Config) → is_inside p start at ≡ true → Keeps c → Keeps (written p start at n c)
+  written-keeps at n c inside h = go (is_inside p start at)
+    where
+      go : (b : Bool) → Keeps (if b then record { tasks = c.tasks; memory = write p start c.memory at n; trace = c.trace ++ (Write at n ∷ []); has_halted = c.has_halted }
+          else record { tasks = c.tasks; memory = c.memory; trace = c.trace ++ (Write at n ∷ []); has_halted = true })
+      go true = (h.0, all-snoc WritesInside c.trace (Write at n) h.1 inside)
+      go false = (h.0, all-snoc WritesInside c.trace (Write at n) h.1 inside)
+
+  -- a literal that is written
+  literal-keeps : (x : Word) (i : ℕ) (e : ExprKind) (c : Config) → IsTrue (is_literal e && is_array_above i (kind_of p x)) → Keeps c →
+      Keeps (with_reading (both {A = ℤ × ℤ} (pure (pos i, pos 0)) (value_of p start c.memory e)) (λ a. written p start (record { name = x; i = a.0.0; j = a.0.1 }) a.1) c)
+  unfolding hidden expr_shape expr_child
+  literal-keeps x i (Num v) c h k =
+      written-keeps (record { name = x; i = pos i; j = pos 0 }) (pos v) (record c { trace = c.trace ++ [] })
+      (inside-kind p start i (kind_of p x) h) (k.0, subst (AllByRecursion WritesInside) (sym (nil c.trace)) k.1)
+  literal-keeps x i _ c h k = absurd (false≢true h)
+
+  statement-keeps : (st : Stmt) (kind : StmtKind) (c : Config) → IsTrue (is_write_within p kind) → Keeps c → Keeps (step_statement p start st kind c)
+  unfolding hidden expr_shape expr_child
+  statement-keeps st (Put x (At n (Num i)) value) c h k = literal-keeps x i value.kind c h k
+  statement-keeps st _ c h k = absurd (false≢true h)
+
+  first-keeps : (tasks : List Task) (c : Config) → AllByRecursion IsStraight tasks → Keeps c → Keeps (step_first p start tasks c)
+  first-keeps [] c h k = k
+  first-keeps (Do st ∷ ts) c h k = statement-keeps st st.kind (record c { tasks = ts }) h.0 (h.1, k.1)
+  first-keeps (_ ∷ ts) c h k = absurd h.0
+
+  step-keeps : (c : Config) → Keeps c → Keeps (step p start c)
+  step-keeps c h = go c.has_halted
+    where
+      go : (b : Bool) → Keeps (if b then c else step_first p start c.tasks c)
+      go true = h
+      go false = first-keeps c.tasks c h.0 h
+
+  run-keeps : WritesWithin p → (n : ℕ) → Keeps (run p start n)
+  run-keeps h zero = (all-map IsStraight Do p.body (recursion_from_All (λ st. IsTrue (is_write_within p st.kind)) p.body h), tt)
+  run-keeps h (suc n) = step-keeps (run p start n) (run-keeps h n)
+
+  never-bad : (roles : List Word) (policy : PolicyName) (before : List Event) (event : Event) → WritesInside event → ¬ Bad p start roles policy before event
+  never-bad roles Bounds before (Write c n) h k = false≢true (sym k ∙ h)
+  never-bad roles Init before (Write c n) h k = k
+  never-bad roles Symm before (Write c n) h k = k
+  never-bad roles _ before _ h k = absurd h
+
+pub straight_safe : (p : Program) → WritesWithin p → (q : Policies) → Safe p q
+straight_safe p h q start n policy fits selected v =
+    never-bad p start q.roles policy v.0 v.1
+    (all-middle (WritesInside p start) v.0 v.1 v.2 (subst (AllByRecursion (WritesInside p start)) v.3 (run-keeps p start h n).1)) v.4

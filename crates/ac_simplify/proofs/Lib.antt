@@ -1,0 +1,6 @@
+pub mod Replay
+pub mod Aims
+pub mod Places
+pub mod Holds
+pub mod Labels
+pub mod Laws
