@@ -7,3 +7,4 @@ pub mod Stable
 pub mod Environment
 pub mod Changes
 pub mod Openings
+mod Denied

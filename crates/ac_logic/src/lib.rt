@@ -5,10 +5,15 @@ mod condition;
 mod formula;
 mod label;
 mod laws;
+mod make;
 mod mark;
+mod print;
 mod reader;
+mod step;
+mod term_text;
 
 pub use condition::{Annotation, Condition};
 pub use formula::{ArrayTerm, Change, Formula, Sym, Term};
 pub use label::{Label, LabelKind};
+pub use print::{print_formula, print_term};
 pub use laws::{absent_change_law, change_law, environment_law, opening_law, two_valued_law};
