@@ -46,12 +46,22 @@ IsSmall (Literal n) = n ≤ 1000000000000
 IsSmall (Name x) = length x ≤ 32
 IsSmall _ = Unit {0}
 
+abbrev pub AreSmall : Tokens → Type 0
+AreSmall [] = Unit {0}
+AreSmall (t ∷ tokens) = IsSmall t.mark × AreSmall tokens
+
 abbrev pub AreDistinct : List (List ℕ) → Type 0
 AreDistinct [] = Unit {0}
-AreDistinct (x ∷ xs) = ¬ Contains xs x × AreDistinct xs
+AreDistinct (x ∷ xs) = (Contains xs x → ⊥) × AreDistinct xs
 
 abbrev pub declared : Straight → List (List ℕ)
 declared p = map (λ d. d.name) p.declarations
+
+-- no name is declared twice, each extent is at least 1, and each name that is written is declared
+pub record IsDeclared (p : Straight) : Type 0 where
+  pub once : AreDistinct (declared p)
+  pub extents : All (λ d. 1 ≤ d.extent) p.declarations
+  pub written : All (λ a. Contains (declared p) a.name) p.assignments
 
 -- A statement is three nodes: itself, its index and its value.
 pub record IsWithinLimits (p : Straight) : Type 0 where
@@ -63,9 +73,10 @@ pub record IsBuilt (bytes : List ℕ) (p : Straight) : Type 0 where
   pub short : length bytes ≤ 1048576
   pub tokens : Tokens
   pub cut : IsCutInto bytes tokens
+  pub small : AreSmall tokens
   pub form : marks tokens ≡ marks_of p
-  pub small : All IsSmall (marks_of p)
-  pub declared_once : AreDistinct (declared p)
-  pub declared_names : All (λ a. Contains (declared p) a.name) p.assignments
-  pub extents : All (λ d. 1 ≤ d.extent) p.declarations
+  pub declared_ : IsDeclared p
   pub limits : IsWithinLimits p
+
+abbrev pub IsNotBuilt : List ℕ → Type 0
+IsNotBuilt bytes = (p : Straight) → IsBuilt bytes p → ⊥

@@ -1,4 +1,9 @@
 pub mod Form
+pub mod Names
 pub mod Opened
+pub mod Policy
 pub mod Reading
+pub mod Report
+pub mod Sites
+pub mod Status
 pub mod Words

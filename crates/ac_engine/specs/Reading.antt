@@ -1,5 +1,5 @@
 -- How the tokens of a straight program make its tree.
-use Rattle.std.specs.Prelude.{◌≡◌, ℕ, ◌+◌, ◌*◌, ◌≤◌, List, [], ◌∷◌, ◌++◌, length, map, All, IsTrue, Bool, true, false}
+use Rattle.std.specs.Prelude.{◌≡◌, ℕ, ◌+◌, ◌*◌, ◌≤◌, ◌<◌, List, [], ◌∷◌, ◌++◌, length, map, All, IsTrue, Bool, true, false}
 use Rattle.std.specs.List.{flat_map}
 use Rattle.ac_tree.specs.declared.node.Span.{Span}
 use Rattle.ac_tree.specs.declared.node.Node.{Node}
@@ -22,6 +22,7 @@ use Rattle.ac_tree.specs.declared.program.StmtKind.TheVariants as stmt
 use Rattle.ac_tree.specs.Grammar.{Tokens, Word, name, literal, keyword_at, sign_at, join, SpellsItems, SpellsBlock, SpellsProgram}
 use Rattle.ac_tree.specs.Numbering.{numbered_items, numbered_list, numbered_program, list_nodes}
 use Rattle.ac_tree.specs.Patterns.{At}
+use Rattle.ac_run.specs.StraightWrites.{is_literal}
 use Rattle.ac_engine.specs.Opened.{hidden, expr_shape, expr_child}
 use Rattle.ac_engine.specs.Form.{Declaration, Assignment, Straight, marks, marks_of, declaration_marks, assignment_marks, IsWithinLimits}
 
@@ -85,12 +86,30 @@ assignment_of st = assigned_by st.kind
 abbrev pub straight_of : Program → Straight
 straight_of p = record { declarations = map declaration_of p.items; assignments = map assignment_of p.body }
 
+-- an array of one literal extent
+abbrev pub IsArray : Item → Type 0
+IsArray d = d.kind ≡ VarArray (One (Lit (extent_of d.kind)))
+
+-- a literal is written at a literal index
+abbrev pub is_put : StmtKind → Bool
+unfolding hidden expr_shape expr_child
+is_put (Put x (At n (Num i)) value) = is_literal value.kind
+is_put _ = false
+
+abbrev pub IsPut : Stmt → Type 0
+IsPut st = is_put st.kind ≡ true
+
+pub record IsStraightTree (p : Program) : Type 0 where
+  pub arrays : All IsArray p.items
+  pub puts : All IsPut p.body
+
 -- the tokens are these declarations, numbered from 1 on
 pub record ReadItems (tokens : Tokens) (items : List Item) : Type 0 where
   pub tree : List Item
   pub spelled : SpellsItems tree tokens
   pub numbers : items ≡ numbered_items 1 tree
   pub form : marks tokens ≡ flat_map declaration_marks (map declaration_of items)
+  pub arrays : All IsArray items
 
 -- the tokens are these assignments, numbered from `first` on
 pub record ReadBody (first : ℕ) (tokens : Tokens) (body : List Stmt) : Type 0 where
@@ -99,6 +118,7 @@ pub record ReadBody (first : ℕ) (tokens : Tokens) (body : List Stmt) : Type 0 
   pub numbers : body ≡ numbered_list first tree
   pub nodes : list_nodes tree ≡ 3 * length body
   pub form : marks tokens ≡ flat_map assignment_marks (map assignment_of body)
+  pub puts : All IsPut body
 
 -- the first tokens are these declarations, and these are left
 pub record ItemsBefore (tokens : Tokens) (items : List Item) (rest : Tokens) : Type 0 where
@@ -117,12 +137,31 @@ NoDeclaration ms = (d : Declaration) (more : List Mark) → ms ≡ declaration_m
 abbrev pub NoAssignment : List Mark → Type 0
 NoAssignment ms = (a : Assignment) (more : List Mark) → ms ≡ assignment_marks a ++ more → ⊥
 
+-- these are all the declarations that the tokens begin with
+pub record AllDeclarations (tokens : Tokens) (items : List Item) (rest : Tokens) : Type 0 where
+  pub before : ItemsBefore tokens items rest
+  pub ended : NoDeclaration (marks rest)
+  pub few : length items ≤ 49999
+
+-- these are all the assignments that the tokens begin with
+pub record AllAssignments (first : ℕ) (tokens : Tokens) (body : List Stmt) (rest : Tokens) : Type 0 where
+  pub before : BodyBefore first tokens body rest
+  pub ended : NoAssignment (marks rest)
+  pub few : length body ≤ 1000
+
+abbrev pub TooManyDeclarations : Tokens → Type 0
+TooManyDeclarations tokens = (ds : List Declaration) (more : List Mark) → NoDeclaration more → marks tokens ≡ flat_map declaration_marks ds ++ more → 49999 < length ds
+
+abbrev pub TooManyAssignments : Tokens → Type 0
+TooManyAssignments tokens = (xs : List Assignment) (more : List Mark) → NoAssignment more → marks tokens ≡ flat_map assignment_marks xs ++ more → 1000 < length xs
+
 -- the tokens are those of this straight program, within the limits
 pub record IsRead (tokens : Tokens) (p : Program) : Type 0 where
   pub tree : Program
   pub spelled : SpellsProgram tree tokens
   pub numbers : p ≡ numbered_program tree
   pub form : marks tokens ≡ marks_of (straight_of p)
+  pub straight_ : IsStraightTree p
   pub limits : IsWithinLimits (straight_of p)
 
 abbrev pub NoneIsRead : Tokens → Type 0

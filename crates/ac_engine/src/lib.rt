@@ -1,9 +1,12 @@
 //! The top call.
-#![tactic(auto)]
+#![tactic(auto, unfolding(crate::specs::Opened::expr_shape, crate::specs::Opened::expr_child, crate::specs::Opened::hidden))]
 
 mod heads;
+mod names;
+mod policy;
+mod report;
+mod status;
 mod straight;
 mod words;
 
-pub use straight::declaration;
-pub use words::{Request, asked};
+pub use status::Status;

@@ -8,3 +8,11 @@ pub mod Environment
 pub mod Changes
 pub mod Openings
 mod Denied
+pub mod Puts
+pub mod Substituted
+pub mod Saturation
+pub mod Reaches
+mod Reading
+mod Spelling
+mod RoundTerm
+mod RoundFormula

@@ -1,6 +1,5 @@
 ghost use Rattle.std.specs.Prelude.{◌≡◌, ◌++◌, ◌+◌, List, IfOk, OnOk, string_bytes, codes, decimal};
 ghost use Rattle.ac_logic.specs.Printing.{is_braced as braced_formula, when, kind_text, text_of_term, text_of_formula};
-ghost use Rattle.ac_logic.specs.Readable.{IsReadable, IsReadableTerm};
 
 use crate::formula::{Formula, Term};
 use crate::label::Label;
@@ -122,9 +121,8 @@ fn write_formula(out: &mut String, depth: u64, formula: &Formula) -> Result<(), 
     }
 }
 
-/// The text of a readable term, in time linear in its size.
+/// The text of a term, in time linear in its size. That of a readable one reads back.
 pub fn print_term(alloc: Global, term: &Term) -> Result<String, AllocError>
-    requires { IsReadableTerm term.now }
     ensures { IfOk result (λ text. string_bytes text ≡ text_of_term 0 term.now) }
 {
     let mut out = String::new(alloc);
@@ -132,9 +130,8 @@ pub fn print_term(alloc: Global, term: &Term) -> Result<String, AllocError>
     Ok(out)
 }
 
-/// The text of a readable formula, in time linear in its size.
+/// The text of a formula, in time linear in its size. That of a readable one reads back.
 pub fn print_formula(alloc: Global, formula: &Formula) -> Result<String, AllocError>
-    requires { IsReadable formula.now }
     ensures { IfOk result (λ text. string_bytes text ≡ text_of_formula 0 formula.now) }
 {
     let mut out = String::new(alloc);

@@ -1,0 +1,5 @@
+pub mod Opened
+pub mod TermEquality
+pub mod NormalForm
+pub mod Combination
+pub mod LinearValue
