@@ -9,11 +9,18 @@ mod formula;
 mod label;
 mod laws;
 mod listing;
+mod make;
+mod mark;
 mod measure;
 mod opening;
+mod print;
 mod readable;
+mod reader;
 mod renewal;
+mod run;
 mod substitution;
+mod term_text;
+mod text_laws;
 
 pub use absence::{is_absent, is_absent_in_array, is_absent_in_term};
 pub use closed::{are_changes_closed, is_closed, is_term_closed};
@@ -25,5 +32,7 @@ pub use laws::{absent_change_law, change_law, environment_law, opening_law, two_
 pub use listing::labels;
 pub use measure::{depth, size};
 pub use opening::open_body;
+pub use print::{print_formula, print_term};
 pub use readable::{is_readable, is_readable_term};
 pub use substitution::substitute;
+pub use text_laws::{one_tree_law, print_reads_back_law};
