@@ -4,7 +4,7 @@ use Rattle.std.specs.Prelude.{IfSome}
 use Rattle.std.proofs.lemmas.Int.{ints}
 use Rattle.ac_logic.specs.Meaning.{Valuation, value}
 use Rattle.ac_linear.specs.declared.entry.Form.{Form}
-use Rattle.ac_linear.specs.declared.entry.Range.TheVariants.{Machine}
+use Rattle.ac_linear.specs.declared.range.Range.TheVariants.{Machine}
 use Rattle.ac_linear.specs.declared.linear.Part.{Part}
 use Rattle.ac_linear.specs.declared.linear.Linear.{Linear}
 use Rattle.ac_linear.specs.NormalForm.{number_form, plus, linear_of}

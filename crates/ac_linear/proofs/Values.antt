@@ -14,12 +14,13 @@ use Rattle.ac_logic.specs.Meaning.{Valuation, value, table_of}
 use Rattle.ac_logic.specs.Printing.{text_of_term}
 use Rattle.ac_linear.specs.declared.entry.Entry.{Entry}
 use Rattle.ac_linear.specs.declared.entry.Form.{Form}
-use Rattle.ac_linear.specs.declared.entry.Range.{Range}
-use Rattle.ac_linear.specs.declared.entry.Range.TheVariants.{Coefficient}
+use Rattle.ac_linear.specs.declared.range.Range.{Range}
+use Rattle.ac_linear.specs.declared.place.Side.TheVariants.{Before, Same, Behind}
+use Rattle.ac_linear.specs.declared.range.Range.TheVariants.{Coefficient}
 use Rattle.ac_linear.specs.declared.linear.Linear.{Linear}
 use Rattle.ac_linear.specs.Opened.{hidden, term_shape, term_child, array_shape, array_child}
 use Rattle.ac_linear.specs.TermEquality.{term_eq}
-use Rattle.ac_linear.specs.NormalForm.{is_in, within, and_then, entry_of, number_form, unit_form, with_factor, by_order, put_in, put_all, plus, number_term, term_of_entry, sum_of, with_constant, term_of_parts, term_of_form, unit_product, times, unit_read, form_of, part_of, linear_of, normal_of}
+use Rattle.ac_linear.specs.NormalForm.{is_in, within, and_then, entry_of, number_form, unit_form, with_factor, by_order, side, by_side, put_in, put_multiple, put_all, plus, number_term, term_of_entry, sum_of, with_constant, term_of_parts, term_of_form, unit_product, times, unit_read, form_of, part_of, linear_of, normal_of}
 use Rattle.ac_linear.specs.LinearValue.{parts_value, linear_value}
 use Rattle.ac_linear.proofs.Ring.{add_mul, mul_assoc, mul_add, one_mul, minus_one_mul}
 use Rattle.ac_linear.proofs.Equal.{term_same}
@@ -45,6 +46,13 @@ either_some false x y P h k = k refl
 
 pub within_itself : (r : Range) (n m : ℤ) → within r n ≡ Some m → m ≡ n
 within_itself r n m h = said (within r n) m (λ x. x ≡ n) h (either_some (is_in r n) (Some n) None (λ x. x ≡ n) (λ _. refl) (λ _. tt))
+
+same_unit : (p q : Entry) → side p q ≡ Same → p.unit ≡ q.unit
+same_unit p q =
+    elim (slice_cmp nat_cmp p.print q.print) as (λ o. by_order o Before (if term_eq p.unit q.unit then Same else Behind) Behind ≡ Same → p.unit ≡ q.unit) [
+      Less ↦ λ h. cc
+    | Equal ↦ elim (term_eq p.unit q.unit) as (λ b. term_eq p.unit q.unit ≡ b → (if b then Same else Behind) ≡ Same → p.unit ≡ q.unit) [ true ↦ λ t h. term_same p.unit q.unit t | false ↦ λ t h. cc ] refl
+    | Greater ↦ λ h. cc ]
 
 zero_test : (f : ℤ) → int_eq f (pos 0) ≡ true → f ≡ pos 0
 zero_test f h = grind arith
@@ -81,34 +89,34 @@ module _ (w : Valuation) (e : List ℤ) where
   put_in_value r p (q ∷ qs) =
       let P : List Entry → Type 0 = (λ rs. entries_value rs ≡ (p.factor *ℤ value w e p.unit) +ℤ ((q.factor *ℤ value w e q.unit) +ℤ entries_value qs)) in
       let behind : IfSome (option_map (λ rest. q ∷ rest) (put_in r p qs)) P = map_some (put_in r p qs) (λ rest. q ∷ rest) P (λ rest h. behind_sum _ _ _ _ (said (put_in r p qs) rest _ h (put_in_value r p qs))) in
-      elim (slice_cmp nat_cmp p.print q.print) as (λ o. IfSome (by_order o (Some (p ∷ q ∷ qs)) (if term_eq p.unit q.unit then option_map (with_factor q qs) (within r (q.factor +ℤ p.factor)) else option_map (λ rest. q ∷ rest) (put_in r p qs)) (option_map (λ rest. q ∷ rest) (put_in r p qs))) P) [
-        Less ↦ refl
-      | Equal ↦ either_some (term_eq p.unit q.unit) _ _ P
-          (λ same. map_some (within r (q.factor +ℤ p.factor)) (with_factor q qs) P (λ f h.
-            let u : value w e q.unit ≡ value w e p.unit = ap (value w e) (sym (term_same p.unit q.unit same)) in
+      elim (side p q) as (λ o. side p q ≡ o → IfSome (by_side o (Some (p ∷ q ∷ qs)) (option_map (with_factor q qs) (within r (q.factor +ℤ p.factor))) (option_map (λ rest. q ∷ rest) (put_in r p qs))) P) [
+        Before ↦ λ _. refl
+      | Same ↦ λ same. map_some (within r (q.factor +ℤ p.factor)) (with_factor q qs) P (λ f h.
+            let u : value w e q.unit ≡ value w e p.unit = ap (value w e) (sym (same_unit p q same)) in
             let s : f *ℤ value w e q.unit ≡ (p.factor *ℤ value w e p.unit) +ℤ (q.factor *ℤ value w e q.unit) = joined_sum f q.factor p.factor _ _ _ (within_itself r _ f h) u refl in
-            with_factor_value q qs f ∙ omega (arith, ints, s)))
-          (λ _. behind)
-      | Greater ↦ behind ]
+            with_factor_value q qs f ∙ omega (arith, ints, s))
+      | Behind ↦ λ _. behind ] refl
 
-  more_sum : (k f n m v a b c : ℤ) → f ≡ k *ℤ n → a ≡ b +ℤ (k *ℤ c) → (f *ℤ v) +ℤ a ≡ b +ℤ (k *ℤ ((n *ℤ v) +ℤ c))
-  more_sum k f n m v a b c h i =
-      let x : f *ℤ v ≡ k *ℤ (n *ℤ v) = ap (λ y. y *ℤ v) h ∙ mul_assoc k n v in
-      let y : k *ℤ ((n *ℤ v) +ℤ c) ≡ (k *ℤ (n *ℤ v)) +ℤ (k *ℤ c) = mul_add k (n *ℤ v) c in
-      omega (arith, ints, x, y, i)
+  multiple_sum : (k f n v a b : ℤ) → f ≡ k *ℤ n → a ≡ (f *ℤ v) +ℤ b → a ≡ b +ℤ (k *ℤ (n *ℤ v))
+  multiple_sum k f n v a b h i = (let x : f *ℤ v ≡ k *ℤ (n *ℤ v) = ap (λ y. y *ℤ v) h ∙ mul_assoc k n v in omega (arith, ints, x, i))
+
+  multiple_value : (r : Range) (k : ℤ) (q : Entry) (ps : List Entry) → IfSome (put_multiple r k q ps) (λ rs. entries_value rs ≡ entries_value ps +ℤ (k *ℤ (q.factor *ℤ value w e q.unit)))
+  multiple_value r k q ps =
+      let P : List Entry → Type 0 = (λ rs. entries_value rs ≡ entries_value ps +ℤ (k *ℤ (q.factor *ℤ value w e q.unit))) in
+      then_some (within r (k *ℤ q.factor)) (λ f. if int_eq f (pos 0) then Some ps else put_in r (record q { factor = f }) ps) P (λ f hf.
+        let n : f ≡ k *ℤ q.factor = within_itself r _ f hf in
+        either_some (int_eq f (pos 0)) (Some ps) (put_in r (record q { factor = f }) ps) P
+          (λ t. multiple_sum k f q.factor (value w e q.unit) _ _ n (let z : f *ℤ value w e q.unit ≡ pos 0 = ap (λ x. x *ℤ value w e q.unit) (zero_test f t) ∙ zero-*ℤ (value w e q.unit) in omega (arith, ints, z)))
+          (λ _. weaker (put_in r (record q { factor = f }) ps) _ P (λ rs g. multiple_sum k f q.factor (value w e q.unit) _ _ n g) (put_in_value r (record q { factor = f }) ps)))
 
   pub put_all_value : (r : Range) (ps : List Entry) (k : ℤ) (qs : List Entry) → IfSome (put_all r ps k qs) (λ rs. entries_value rs ≡ entries_value ps +ℤ (k *ℤ entries_value qs))
   put_all_value r ps k [] = (let z : k *ℤ pos 0 ≡ pos 0 = *ℤ-zero k in omega (arith, ints, z))
   put_all_value r ps k (q ∷ qs) =
       let P : List Entry → Type 0 = (λ rs. entries_value rs ≡ entries_value ps +ℤ (k *ℤ ((q.factor *ℤ value w e q.unit) +ℤ entries_value qs))) in
-      then_some (put_all r ps k qs) _ P (λ more hm.
-        let m : entries_value more ≡ entries_value ps +ℤ (k *ℤ entries_value qs) = said _ more _ hm (put_all_value r ps k qs) in
-        then_some (within r (k *ℤ q.factor)) _ P (λ f hf.
-          let n : f ≡ k *ℤ q.factor = within_itself r _ f hf in
-          let s : (f *ℤ value w e q.unit) +ℤ entries_value more ≡ entries_value ps +ℤ (k *ℤ ((q.factor *ℤ value w e q.unit) +ℤ entries_value qs)) = more_sum k f q.factor (pos 0) (value w e q.unit) _ _ _ n m in
-          either_some (int_eq f (pos 0)) (Some more) (put_in r (record q { factor = f }) more) P
-            (λ t. (let z : f *ℤ value w e q.unit ≡ pos 0 = ap (λ x. x *ℤ value w e q.unit) (zero_test f t) ∙ zero-*ℤ (value w e q.unit) in omega (arith, ints, z, s)))
-            (λ _. (let put : IfSome (put_in r (record q { factor = f }) more) P = weaker (put_in r (record q { factor = f }) more) _ P (λ rs g. g ∙ s) (put_in_value r (record q { factor = f }) more) in put))))
+      then_some (put_multiple r k q ps) (λ more. put_all r more k qs) P (λ more hm.
+        let m : entries_value more ≡ entries_value ps +ℤ (k *ℤ (q.factor *ℤ value w e q.unit)) = said (put_multiple r k q ps) more _ hm (multiple_value r k q ps) in
+        let d : k *ℤ ((q.factor *ℤ value w e q.unit) +ℤ entries_value qs) ≡ (k *ℤ (q.factor *ℤ value w e q.unit)) +ℤ (k *ℤ entries_value qs) = mul_add k (q.factor *ℤ value w e q.unit) (entries_value qs) in
+        weaker (put_all r more k qs) _ P (λ rs g. omega (arith, ints, m, d, g)) (put_all_value r more k qs))
 
   pub plus_value : (r : Range) (x : Form) (k : ℤ) (y : Form) → IfSome (plus r x k y) (λ z. form_value z ≡ form_value x +ℤ (k *ℤ form_value y))
   plus_value r x k y =

@@ -1,10 +1,10 @@
--- The sum of factor times fact, in order, in 128 bits.
+-- The sum of factor times fact, one fact after the other, in 128 bits.
 use Rattle.std.specs.Prelude.{ℕ, ℤ, pos, List, [], ◌∷◌, map, Option, Some, None, option_map}
 use Rattle.ac_linear.specs.declared.linear.Part.{Part}
 use Rattle.ac_linear.specs.declared.linear.Linear.{Linear}
 use Rattle.ac_linear.specs.declared.entry.Entry.{Entry}
 use Rattle.ac_linear.specs.declared.entry.Form.{Form}
-use Rattle.ac_linear.specs.declared.entry.Range.TheVariants.{Machine}
+use Rattle.ac_linear.specs.declared.range.Range.TheVariants.{Machine}
 use Rattle.ac_linear.specs.NormalForm.{and_then, entry_of, number_form, plus, linear_of}
 
 abbrev pub entry_of_part : Part → Entry
@@ -13,6 +13,7 @@ entry_of_part p = entry_of p.unit p.factor
 abbrev pub form_of_linear : Linear → Form
 form_of_linear l = record { constant = l.constant; entries = map entry_of_part l.parts }
 
+-- It ends where either list does, so of lists of unequal length the rest of the longer one counts for nothing.
 abbrev pub combined_with : Form → List Linear → List ℕ → Option Form
 combined_with x [] ks = Some x
 combined_with x (l ∷ ls) [] = Some x

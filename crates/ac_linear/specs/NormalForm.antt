@@ -1,4 +1,5 @@
--- The normal form of a term: the fold of its sums, differences, negations and products with a constant side.
+-- The normal form of a term: the fold of its sums, differences, negations and products with a constant side. A form on
+-- the way has the print of each unit beside it: each entry is made by `entry_of`, so it is `text_of_term 0` of its unit.
 use Rattle.std.specs.Prelude.{ℕ, ℤ, pos, negsuc, ◌+ℤ◌, ◌*ℤ◌, ◌^◌, ◌-◌, List, [], ◌∷◌, map, Bool, true, false, ◌&&◌, ◌||◌, if◌then◌else◌, int_lt, Option, Some, None, option_map}
 use Rattle.std.specs.Ordering.{int_eq, nat_cmp, is_gt}
 use Rattle.std.specs.Cmp.Lexicographic.{slice_cmp}
@@ -12,8 +13,10 @@ use Rattle.ac_linear.specs.declared.linear.Part.{Part}
 use Rattle.ac_linear.specs.declared.linear.Linear.{Linear}
 use Rattle.ac_linear.specs.declared.entry.Entry.{Entry}
 use Rattle.ac_linear.specs.declared.entry.Form.{Form}
-use Rattle.ac_linear.specs.declared.entry.Range.{Range}
-use Rattle.ac_linear.specs.declared.entry.Range.TheVariants.{Coefficient, Machine}
+use Rattle.ac_linear.specs.declared.range.Range.{Range}
+use Rattle.ac_linear.specs.declared.place.Side.{Side}
+use Rattle.ac_linear.specs.declared.place.Side.TheVariants.{Before, Same, Behind}
+use Rattle.ac_linear.specs.declared.range.Range.TheVariants.{Coefficient, Machine}
 use Rattle.ac_linear.specs.Opened.{hidden, term_shape, term_child, array_shape, array_child}
 use Rattle.ac_linear.specs.TermEquality.{term_eq}
 
@@ -48,22 +51,32 @@ by_order Less a b c = a
 by_order Equal a b c = b
 by_order Greater a b c = c
 
--- A part put into its place by its print: before the first with a greater one, or added to the one of the same unit.
+-- Where a part goes beside another: before it where its print is less, to it where they have the same unit, else behind it.
+abbrev pub side : Entry → Entry → Side
+side p q = by_order (slice_cmp nat_cmp p.print q.print) Before (if term_eq p.unit q.unit then Same else Behind) Behind
+
+abbrev pub by_side : {A : Type 0} → Side → A → A → A → A
+by_side Before a b c = a
+by_side Same a b c = b
+by_side Behind a b c = c
+
+-- A part put into its place: before the first with a greater print, or added to the one of the same unit.
 abbrev pub put_in : Range → Entry → List Entry → Option (List Entry)
 put_in r p [] = Some (p ∷ [])
 put_in r p (q ∷ qs) =
-    by_order (slice_cmp nat_cmp p.print q.print)
-    (Some (p ∷ q ∷ qs))
-    (if term_eq p.unit q.unit then option_map (with_factor q qs) (within r (q.factor +ℤ p.factor)) else option_map (λ rest. q ∷ rest) (put_in r p qs))
-    (option_map (λ rest. q ∷ rest) (put_in r p qs))
+    by_side (side p q)
+      (Some (p ∷ q ∷ qs))
+      (option_map (with_factor q qs) (within r (q.factor +ℤ p.factor)))
+      (option_map (λ rest. q ∷ rest) (put_in r p qs))
 
--- the parts and k times some more
+-- a part k times put into its place, unless its factor becomes 0
+abbrev pub put_multiple : Range → ℤ → Entry → List Entry → Option (List Entry)
+put_multiple r k q ps = and_then (within r (k *ℤ q.factor)) (λ f. if int_eq f (pos 0) then Some ps else put_in r (record q { factor = f }) ps)
+
+-- the parts and k times some more, one after the other
 abbrev pub put_all : Range → List Entry → ℤ → List Entry → Option (List Entry)
 put_all r ps k [] = Some ps
-put_all r ps k (q ∷ qs) =
-    and_then (put_all r ps k qs) (λ more.
-    and_then (within r (k *ℤ q.factor)) (λ f.
-    if int_eq f (pos 0) then Some more else put_in r (record q { factor = f }) more))
+put_all r ps k (q ∷ qs) = and_then (put_multiple r k q ps) (λ more. put_all r more k qs)
 
 -- x and k times y
 abbrev pub plus : Range → Form → ℤ → Form → Option Form

@@ -1,4 +1,6 @@
 //! The working form: parts with their units' prints, so that each unit is printed once.
+ghost use Rattle.std.specs.Prelude.{◌≡◌};
+
 use ac_logic::Term;
 use ac_shared::Shared;
 use std::marker::Model;
@@ -18,6 +20,14 @@ impl Model for Print {
     ghost coded = { coded_list coded_ℕ };
 
     ghost view = { λ p. string_bytes p.text };
+}
+
+impl Print {
+    pub fn text(&self) -> &str
+        ensures { result.now ≡ self.now }
+    {
+        self.text.as_str()
+    }
 }
 
 /// A part with the print of its unit.
@@ -50,13 +60,4 @@ impl<T> Model for Entries<T> {
 pub struct Form {
     pub constant: i128,
     pub entries: Entries<Entry>,
-}
-
-/// Which range a number on the way must not leave.
-#[derive(Clone, Copy, Debug)]
-pub enum Range {
-    /// -2^62 to 2^62.
-    Coefficient,
-    /// Those of 128 bits.
-    Machine,
 }

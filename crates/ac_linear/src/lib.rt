@@ -7,8 +7,14 @@
 #[allow(dead_code)]
 mod entry;
 mod fault;
+#[allow(dead_code)]
+mod form;
 mod laws;
 mod linear;
+#[allow(dead_code)]
+mod place;
+#[allow(dead_code)]
+mod range;
 
 pub use fault::LinFault;
 pub use laws::{combination_law, normal_law};
