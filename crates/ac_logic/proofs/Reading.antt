@@ -115,9 +115,18 @@ stopped g bytes left k s m i u =
     let e = snoc_same i.before r.before m r.whole in
     record { so_far = subst (λ q. Continues g q) (sym e) r.so_far; no_further = subst (λ q. Continues g (q ++ m ∷ []) → ⊥) (sym e) r.no_further }
 
+abbrev Found : Type 0
+Found = Mark × List ℕ
+
+some_same : (p q : Found) → ◌≡◌ {A = Option Found} (Some p) (Some q) → p ≡ q
+some_same p q h = cc
+
+one_token : (left rest more : List ℕ) (m o : Mark) → first_token left ≡ Some (m, rest) → first_token left ≡ Some (o, more) → (m ≡ o) × (rest ≡ more)
+one_token left rest more m o f h = let e = some_same (m, rest) (o, more) (sym f ∙ h) in (ap (λ p. p.0) e, ap (λ p. p.1) e)
+
 none_follows : (g : Goal) (before : Tokens) (left rest : List ℕ) (m : Mark) → first_token left ≡ Some (m, rest) → (Continues g (before ++ m ∷ []) → ⊥) → NoneFollows g before left
 none_follows g before [] rest m f n = cc
-none_follows g before (b ∷ left) rest m f n = λ o more h. let e : m ≡ o = cc in subst (λ q. Continues g (before ++ q ∷ []) → ⊥) e n
+none_follows g before (b ∷ left) rest m f n = λ o more h. subst (λ q. Continues g (before ++ q ∷ []) → ⊥) (one_token (b ∷ left) rest more m o f h).0 n
 
 fault_follows : (g : Goal) (before : Tokens) (left : List ℕ) → 0 < length left → first_token left ≡ None → NoneFollows g before left
 fault_follows g before [] h f = absurd (omega arith)
@@ -164,9 +173,10 @@ cut_goes : {bytes left : List ℕ} {before ts : Tokens} → Cut bytes before lef
 cut_goes (nothing h) (nothing i) = ([], refl, sym h ∙ i)
 cut_goes (nothing {bytes = bytes} h) (token {rest = rest} {m = m} {ts = ts} e d) = (m ∷ ts, refl, (rest, ap first_token (sym h) ∙ e))
 cut_goes (token {m = m} {ts = ts} e d) (nothing i) = let f = ap first_token i in cc
-cut_goes (token {rest = r} {left = left} {m = m} {ts = ts} e d) (token {rest = q} {m = n} {ts = us} f c) =
-    let a : r ≡ q = cc in
-    let b : n ≡ m = cc in
+cut_goes (token {bytes = bytes} {rest = r} {left = left} {m = m} {ts = ts} e d) (token {rest = q} {m = n} {ts = us} f c) =
+    let same = one_token (behind run.Blank bytes) r q m n e f in
+    let a : r ≡ q = same.1 in
+    let b : n ≡ m = sym same.0 in
     let g = cut_goes d (subst (λ w. Cut w us []) (sym a) c) in
     (g.0, ap (λ w. n ∷ w) g.1 ∙ ap (λ w. w ∷ (ts ++ g.0)) b, g.2)
 

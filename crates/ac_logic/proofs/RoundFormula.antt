@@ -84,7 +84,7 @@ infix_prints f g x y w b more k a n p q rest left ts edge d =
 and_prints : {e : Names} (f g : Formula) (x y : List ℕ) → PrintsFormula e Part f x → PrintsFormula e Part g y → PrintsFormula e Full (Conjunction f g) (x ++ codes " and " ++ y)
 unfolding kind_of keyword_of
 and_prints f g x y p q rest left ts edge d =
-    let i = infix_prints f g x y keyword.And 97 (110 ∷ 100 ∷ []) refl (tt, tt, tt) refl p q rest left ts edge d in
+    let i = infix_prints f g x y keyword.And 97 (110 ∷ 100 ∷ []) refl (tt, (tt, tt)) refl p q rest left ts edge d in
     (i.0, i.2, spells.disj (spells.conj (spells.and (conj_of i.3) (spells.part i.4))))
 
 or_prints : {e : Names} (f g : Formula) (x y : List ℕ) → PrintsFormula e Part f x → PrintsFormula e Part g y → PrintsFormula e Full (Disjunction f g) (x ++ codes " or " ++ y)
@@ -96,23 +96,23 @@ or_prints f g x y p q rest left ts edge d =
 implies_prints : {e : Names} (f g : Formula) (x y : List ℕ) → PrintsFormula e Part f x → PrintsFormula e Part g y → PrintsFormula e Full (Implication f g) (x ++ codes " implies " ++ y)
 unfolding kind_of keyword_of
 implies_prints f g x y p q rest left ts edge d =
-    let i = infix_prints f g x y keyword.Implies 105 (109 ∷ 112 ∷ 108 ∷ 105 ∷ 101 ∷ 115 ∷ []) refl (tt, tt, tt, tt, tt, tt, tt) refl p q rest left ts edge d in
+    let i = infix_prints f g x y keyword.Implies 105 (109 ∷ 112 ∷ 108 ∷ 105 ∷ 101 ∷ 115 ∷ []) refl (tt, (tt, (tt, (tt, (tt, (tt, tt)))))) refl p q rest left ts edge d in
     (i.0, i.2, spells.implies (disj_of i.3) (spells.disj (disj_of i.4)))
 
 not_prints : {e : Names} (f : Formula) (x : List ℕ) → PrintsFormula e Part f x → PrintsFormula e Full (Negation f) (codes "not " ++ x)
 unfolding kind_of keyword_of
 not_prints f x p rest left ts edge d =
     let q = p rest left ts edge d in
-    (mark.Not ∷ q.0, cut_keyword keyword.Not 110 (111 ∷ 116 ∷ []) (32 ∷ (x ++ rest)) refl (tt, tt, tt) refl refl (cut_space q.1),
+    (mark.Not ∷ q.0, cut_keyword keyword.Not 110 (111 ∷ 116 ∷ []) (32 ∷ (x ++ rest)) refl (tt, (tt, tt)) refl refl (cut_space q.1),
         spells.disj (spells.conj (spells.neg (spells.negation (spells.part q.2)))))
 
 true_prints : {e : Names} → PrintsFormula e Part True (codes "true")
 unfolding kind_of keyword_of
-true_prints rest left ts edge d = (mark.True ∷ ts, cut_keyword keyword.True 116 (114 ∷ 117 ∷ 101 ∷ []) rest refl (tt, tt, tt, tt) refl edge d, spells.true_word)
+true_prints rest left ts edge d = (mark.True ∷ ts, cut_keyword keyword.True 116 (114 ∷ 117 ∷ 101 ∷ []) rest refl (tt, (tt, (tt, tt))) refl edge d, spells.true_word)
 
 false_prints : {e : Names} → PrintsFormula e Part False (codes "false")
 unfolding kind_of keyword_of
-false_prints rest left ts edge d = (mark.False ∷ ts, cut_keyword keyword.False 102 (97 ∷ 108 ∷ 115 ∷ 101 ∷ []) rest refl (tt, tt, tt, tt, tt) refl edge d, spells.false_word)
+false_prints rest left ts edge d = (mark.False ∷ ts, cut_keyword keyword.False 102 (97 ∷ 108 ∷ 115 ∷ 101 ∷ []) rest refl (tt, (tt, (tt, (tt, tt)))) refl edge d, spells.false_word)
 
 le_prints : {e : Names} (s t : Term) (x y : List ℕ) → PrintsTerm e Whole s x → PrintsTerm e Whole t y → PrintsFormula e Part (Le s t) (x ++ codes " <= " ++ y)
 unfolding kind_of
@@ -136,25 +136,25 @@ all_prints n f x h p rest left ts edge d =
     let b = body_prints f x p rest left ts d in
     let e : (codes "all _" ++ decimal n ++ codes " { " ++ x ++ codes " }") ++ rest ≡ 97 ∷ 108 ∷ 108 ∷ 32 ∷ 95 ∷ (decimal n ++ 32 ∷ 123 ∷ 32 ∷ ((x ++ 32 ∷ 125 ∷ []) ++ rest)) = simp append_assoc in
     (mark.All ∷ mark.Bound (decimal n) ∷ mark.OpenBrace ∷ b.0,
-        recut _ _ e (cut_keyword keyword.All 97 (108 ∷ 108 ∷ []) (32 ∷ 95 ∷ (decimal n ++ 32 ∷ 123 ∷ 32 ∷ ((x ++ 32 ∷ 125 ∷ []) ++ rest))) refl (tt, tt, tt) refl refl (cut_space (cut_bound n _ h refl b.1))),
+        recut _ _ e (cut_keyword keyword.All 97 (108 ∷ 108 ∷ []) (32 ∷ 95 ∷ (decimal n ++ 32 ∷ 123 ∷ 32 ∷ ((x ++ 32 ∷ 125 ∷ []) ++ rest))) refl (tt, (tt, tt)) refl refl (cut_space (cut_bound n _ h refl b.1))),
         spells.all (decimal n) b.2)
 
 -- the word of a kind
 kind_cuts : (k : LabelKind) (rest left : List ℕ) (ts : Tokens) → Edge rest → Cut rest ts left → (m : Mark) × (kind_of_mark m ≡ Some k) × Cut (kind_text k ++ rest) (m ∷ ts) left
 unfolding kind_of keyword_of
-kind_cuts kind.Range rest left ts edge d = (_, refl, cut_name (kind_text kind.Range) rest (refl, (tt, tt, tt, tt, tt), refl) edge d)
-kind_cuts kind.Header rest left ts edge d = (_, refl, cut_name (kind_text kind.Header) rest (refl, (tt, tt, tt, tt, tt, tt), refl) edge d)
-kind_cuts kind.Exit rest left ts edge d = (_, refl, cut_name (kind_text kind.Exit) rest (refl, (tt, tt, tt, tt), refl) edge d)
-kind_cuts kind.Invariant rest left ts edge d = (_, refl, cut_name (kind_text kind.Invariant) rest (refl, (tt, tt, tt, tt, tt, tt, tt, tt, tt), refl) edge d)
-kind_cuts kind.Assumed rest left ts edge d = (_, refl, cut_name (kind_text kind.Assumed) rest (refl, (tt, tt, tt, tt, tt, tt, tt), refl) edge d)
-kind_cuts kind.Test rest left ts edge d = (_, refl, cut_name (kind_text kind.Test) rest (refl, (tt, tt, tt, tt), refl) edge d)
-kind_cuts kind.Denied rest left ts edge d = (_, refl, cut_name (kind_text kind.Denied) rest (refl, (tt, tt, tt, tt, tt, tt), refl) edge d)
-kind_cuts kind.Guard rest left ts edge d = (_, refl, cut_name (kind_text kind.Guard) rest (refl, (tt, tt, tt, tt, tt), refl) edge d)
-kind_cuts kind.Set rest left ts edge d = (_, refl, cut_name (kind_text kind.Set) rest (refl, (tt, tt, tt), refl) edge d)
-kind_cuts kind.Need rest left ts edge d = (mark.Use, refl, cut_keyword keyword.Use 117 (115 ∷ 101 ∷ []) rest refl (tt, tt, tt) refl edge d)
-kind_cuts kind.Entry rest left ts edge d = (_, refl, cut_name (kind_text kind.Entry) rest (refl, (tt, tt, tt, tt, tt), refl) edge d)
-kind_cuts kind.Keep rest left ts edge d = (_, refl, cut_name (kind_text kind.Keep) rest (refl, (tt, tt, tt, tt), refl) edge d)
-kind_cuts kind.Barrier rest left ts edge d = (_, refl, cut_name (kind_text kind.Barrier) rest (refl, (tt, tt, tt, tt, tt, tt, tt), refl) edge d)
+kind_cuts kind.Range rest left ts edge d = (_, refl, cut_name (kind_text kind.Range) rest (refl, (tt, (tt, (tt, (tt, tt)))), refl) edge d)
+kind_cuts kind.Header rest left ts edge d = (_, refl, cut_name (kind_text kind.Header) rest (refl, (tt, (tt, (tt, (tt, (tt, tt))))), refl) edge d)
+kind_cuts kind.Exit rest left ts edge d = (_, refl, cut_name (kind_text kind.Exit) rest (refl, (tt, (tt, (tt, tt))), refl) edge d)
+kind_cuts kind.Invariant rest left ts edge d = (_, refl, cut_name (kind_text kind.Invariant) rest (refl, (tt, (tt, (tt, (tt, (tt, (tt, (tt, (tt, tt)))))))), refl) edge d)
+kind_cuts kind.Assumed rest left ts edge d = (_, refl, cut_name (kind_text kind.Assumed) rest (refl, (tt, (tt, (tt, (tt, (tt, (tt, tt)))))), refl) edge d)
+kind_cuts kind.Test rest left ts edge d = (_, refl, cut_name (kind_text kind.Test) rest (refl, (tt, (tt, (tt, tt))), refl) edge d)
+kind_cuts kind.Denied rest left ts edge d = (_, refl, cut_name (kind_text kind.Denied) rest (refl, (tt, (tt, (tt, (tt, (tt, tt))))), refl) edge d)
+kind_cuts kind.Guard rest left ts edge d = (_, refl, cut_name (kind_text kind.Guard) rest (refl, (tt, (tt, (tt, (tt, tt)))), refl) edge d)
+kind_cuts kind.Set rest left ts edge d = (_, refl, cut_name (kind_text kind.Set) rest (refl, (tt, (tt, tt)), refl) edge d)
+kind_cuts kind.Need rest left ts edge d = (mark.Use, refl, cut_keyword keyword.Use 117 (115 ∷ 101 ∷ []) rest refl (tt, (tt, tt)) refl edge d)
+kind_cuts kind.Entry rest left ts edge d = (_, refl, cut_name (kind_text kind.Entry) rest (refl, (tt, (tt, (tt, (tt, tt)))), refl) edge d)
+kind_cuts kind.Keep rest left ts edge d = (_, refl, cut_name (kind_text kind.Keep) rest (refl, (tt, (tt, (tt, tt))), refl) edge d)
+kind_cuts kind.Barrier rest left ts edge d = (_, refl, cut_name (kind_text kind.Barrier) rest (refl, (tt, (tt, (tt, (tt, (tt, (tt, tt)))))), refl) edge d)
 
 label_prints : {e : Names} (l : Label) (f : Formula) (x : List ℕ) → l.node.0 < 2 ^ 32 → PrintsFormula e Full f x →
     PrintsFormula e Part (Labelled l f) (codes "@" ++ kind_text l.kind ++ codes " " ++ decimal l.node.0 ++ codes " { " ++ x ++ codes " }")

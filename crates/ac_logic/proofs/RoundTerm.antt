@@ -98,7 +98,7 @@ negation_prints t bytes p rest left ts edge d =
     let q = parens_print t bytes p rest left ts edge d in
     (mark.Minus ∷ q.0, cut_sign 45 sign.Minus (40 ∷ ((bytes ++ 41 ∷ []) ++ rest)) refl (λ k. refl) q.1, spells.negation q.2)
 
-lt_true : (n m : ℕ) → n < m → nat_lt n m ≡ true
+pub lt_true : (n m : ℕ) → n < m → nat_lt n m ≡ true
 lt_true n m h = grind (arith, nat_tests)
 
 le_true : (n m : ℕ) → n ≤ m → nat_le n m ≡ true
@@ -116,7 +116,7 @@ init_prints : {e : Names} (x : List ℕ) → IsName x → PrintsArray e (Array (
 unfolding kind_of keyword_of
 init_prints x n rest left ts edge d =
     (mark.Init ∷ mark.OpenParen ∷ mark.Name x ∷ mark.CloseParen ∷ ts,
-        cut_keyword keyword.Init 105 (110 ∷ 105 ∷ 116 ∷ []) (40 ∷ ((x ++ 41 ∷ []) ++ rest)) refl (tt, tt, tt, tt) refl refl
+        cut_keyword keyword.Init 105 (110 ∷ 105 ∷ 116 ∷ []) (40 ∷ ((x ++ 41 ∷ []) ++ rest)) refl (tt, (tt, (tt, tt))) refl refl
             (cut_sign 40 sign.OpenParen ((x ++ 41 ∷ []) ++ rest) refl (λ k. refl) (recut _ _ (last_byte x rest 41) (cut_name x (41 ∷ rest) n refl (cut_sign 41 sign.CloseParen rest refl (λ k. refl) d)))),
         spells.init x)
 
@@ -183,7 +183,7 @@ put_prints a i j v x y z w p q r s rest left ts edge d =
     let e : (x ++ codes ", " ++ y ++ codes ", " ++ z ++ codes ", " ++ w ++ codes ")") ++ rest ≡ x ++ 44 ∷ 32 ∷ (y ++ 44 ∷ 32 ∷ (z ++ 44 ∷ 32 ∷ (w ++ 41 ∷ rest))) = simp append_assoc in
     let f : (codes "put(" ++ x ++ codes ", " ++ y ++ codes ", " ++ z ++ codes ", " ++ w ++ codes ")") ++ rest ≡ 112 ∷ 117 ∷ 116 ∷ 40 ∷ (x ++ 44 ∷ 32 ∷ (y ++ 44 ∷ 32 ∷ (z ++ 44 ∷ 32 ∷ (w ++ 41 ∷ rest)))) = simp append_assoc in
     (mark.Put ∷ mark.OpenParen ∷ u.0,
-        recut _ _ f (cut_keyword keyword.Put 112 (117 ∷ 116 ∷ []) (40 ∷ (x ++ 44 ∷ 32 ∷ (y ++ 44 ∷ 32 ∷ (z ++ 44 ∷ 32 ∷ (w ++ 41 ∷ rest))))) refl (tt, tt, tt) refl refl
+        recut _ _ f (cut_keyword keyword.Put 112 (117 ∷ 116 ∷ []) (40 ∷ (x ++ 44 ∷ 32 ∷ (y ++ 44 ∷ 32 ∷ (z ++ 44 ∷ 32 ∷ (w ++ 41 ∷ rest))))) refl (tt, (tt, tt)) refl refl
             (cut_sign 40 sign.OpenParen (x ++ 44 ∷ 32 ∷ (y ++ 44 ∷ 32 ∷ (z ++ 44 ∷ 32 ∷ (w ++ 41 ∷ rest)))) refl (λ k. refl) u.1)),
         spells.put u.2 n.2 m.2 l.2)
 
