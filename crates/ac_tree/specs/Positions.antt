@@ -39,6 +39,7 @@ node s below i = position s (i + length (below i (i + 1))) ∷ below i (i + 1)
 
 abbrev mutual
   unfolding hidden expr_shape expr_child
+
   pub expr_positions : ExprKind → Spot → Positions
   expr_positions (Num k) s = node s (λ own. no_node)
   expr_positions (Get x) s = node s (λ own. no_node)
