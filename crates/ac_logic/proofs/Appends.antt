@@ -43,7 +43,7 @@ pub put_text : (d : ℕ) (t a b : ArrayTerm) (i j v x y z : Term) (o s1 s2 s3 s4
     s6 ≡ s5 ++ text_of_term d y → s7 ≡ s6 ++ codes ", " → s8 ≡ s7 ++ text_of_term d z → s9 ≡ s8 ++ codes ")" → s9 ≡ o ++ text_of_array d t
 put_text d t a b i j v x y z o s1 s2 s3 s4 s5 s6 s7 s8 s9 is l m n p e f g h k q r u w =
     nine o s1 s2 s3 s4 s5 s6 s7 s8 s9 (codes "put(") (text_of_array d a) (codes ", ") (text_of_term d i) (codes ", ") (text_of_term d j) (codes ", ") (text_of_term d v) (codes ")")
-        e (f ∙ ap (λ c. s1 ++ text_of_array d c) l) g (h ∙ ap (λ c. s3 ++ text_of_term d c) n) k (q ∙ ap (λ c. s5 ++ text_of_term d c) p) r (u ∙ ap (λ c. s7 ++ text_of_term d c) m) w
+    e (f ∙ ap (λ c. s1 ++ text_of_array d c) l) g (h ∙ ap (λ c. s3 ++ text_of_term d c) n) k (q ∙ ap (λ c. s5 ++ text_of_term d c) p) r (u ∙ ap (λ c. s7 ++ text_of_term d c) m) w
     ∙ ap (λ c. o ++ c) (sym (ap (text_of_array d) is ∙ put_is d a i j v))
 
 operands_text : (d : ℕ) (t a b x y : Term) (sign o s1 s2 s3 s4 s5 : List ℕ) →

@@ -25,7 +25,12 @@ fn close_operand(out: &mut String, formula: &Formula) -> Result<(), AllocError>
 }
 
 /// Writes a connective between two operands.
-fn write_sign(out: &mut String, left: &Formula, sign: &str, right: &Formula) -> Result<(), AllocError>
+fn write_sign(
+    out: &mut String,
+    left: &Formula,
+    sign: &str,
+    right: &Formula,
+) -> Result<(), AllocError>
     ensures { OnOk result (string_bytes out.new ≡ string_bytes out.old ++ when (braced_formula left.now) (codes " }") ++ sign.now ++ when (braced_formula right.now) (codes "{ ")) }
 {
     close_operand(out, left)?;
@@ -33,7 +38,13 @@ fn write_sign(out: &mut String, left: &Formula, sign: &str, right: &Formula) -> 
     open_operand(out, right)
 }
 
-fn write_relation(out: &mut String, depth: u64, left: &Term, sign: &str, right: &Term) -> Result<(), AllocError>
+fn write_relation(
+    out: &mut String,
+    depth: u64,
+    left: &Term,
+    sign: &str,
+    right: &Term,
+) -> Result<(), AllocError>
     ensures { OnOk result (string_bytes out.new ≡ string_bytes out.old ++ text_of_term depth left.now ++ sign.now ++ text_of_term depth right.now) }
 {
     write_term(out, depth, left)?;

@@ -81,8 +81,16 @@ pub(crate) fn is_braced(formula: &Formula) -> bool
     ensures { result ≡ braced_formula formula.now }
 {
     match formula {
-        Formula::Not(_) | Formula::And(_, _) | Formula::Or(_, _) | Formula::Implies(_, _) | Formula::All(_) => true,
-        Formula::True | Formula::False | Formula::Le(_, _) | Formula::Eq(_, _) | Formula::Lab(_, _) => false,
+        Formula::Not(_)
+        | Formula::And(_, _)
+        | Formula::Or(_, _)
+        | Formula::Implies(_, _)
+        | Formula::All(_) => true,
+        Formula::True
+        | Formula::False
+        | Formula::Le(_, _)
+        | Formula::Eq(_, _)
+        | Formula::Lab(_, _) => false,
     }
 }
 
@@ -117,7 +125,10 @@ fn write_bound(out: &mut String, depth: u64, bound: u32) -> Result<(), AllocErro
     ensures { OnOk result (string_bytes out.new ≡ string_bytes out.old ++ codes "_" ++ decimal (depth - 1 - bound)) }
 {
     out.push_str("_")?;
-    write_count(out, depth.saturating_sub(1).saturating_sub(u64::from(bound)))
+    write_count(
+        out,
+        depth.saturating_sub(1).saturating_sub(u64::from(bound)),
+    )
 }
 
 /// Writes a term that stands inside `depth` enclosing `all`.

@@ -65,7 +65,7 @@ pub side_ends : (k : Stack) (p : Before) (side : Side) (m : Reading) (x : Operan
     step (comparing k p side m) t ≡ behind k p side t.span t.mark x
 side_ends k p side m x t v free =
     inside_passed (comparing k p side) (behind k p side t.span t.mark) (expression.is_own m.stack t.mark) (expression.step m t) (expression.value m) x
-      (ap (λ j. expression.is_own j t.mark) (closed m x v) ∙ free) v
+    (ap (λ j. expression.is_own j t.mark) (closed m x v) ∙ free) v
 
 -- the first token of an expression begins a comparison
 first_want : (k : Stack) (p : Before) (s : Span) (m : Mark) (j : Reading) → expression.wanting [] expression.fresh s m ≡ Some j → wanting k p s m ≡ Some (comparing k p Left j)
@@ -102,7 +102,7 @@ pub relation_step : (k : Stack) (p : Before) (m : Reading) (a : Operand) (r : Re
     runs (comparing k p Left m) (sign_at (relation_sign r) s ∷ rest) ≡ runs (comparing k p (Right r a) expression.start) rest
 relation_step k p m a r s rest v =
     step_runs step value (comparing k p Left m) (comparing k p (Right r a) expression.start) (sign_at (relation_sign r) s) rest
-      (side_ends k p Left m a (sign_at (relation_sign r) s) v (relation_own r) ∙ ap (relating k p a) (relation_back r))
+    (side_ends k p Left m a (sign_at (relation_sign r) s) v (relation_own r) ∙ ap (relating k p a) (relation_back r))
 
 whole_value : (k : Stack) (p : Before) (r : RelOp) (a b : Operand) (m : Reading) → expression.value m ≡ Some b →
     value_at k (Compares p (Right r a) m) ≡ value_at k (Has p.or (conjunct_of p (compared r a b)))
@@ -129,13 +129,17 @@ pub moves : {l : CondLevel} {s : Span} {c : Cond} {ts : Tokens} → SpellsCond l
 moves (g.disjunction {s = s} {a = a} d) = λ k. (None, test s a, refl, moves d k None)
 moves (g.or {s = s} {t = t} {a = a} {b = b} {ts = ts} {us = us} o d f) = λ k.
     let p = moves d k in
-    let x = test s a in
-    (Some x, test t b, refl, then_leads k (Wants fresh) (Has p.0 p.1) (Wants (pending (Some x) None None)) (Has (Some x) (test t b)) (keyword_at keyword.Or o) ts us refl p.3
-        (λ rest. ap (λ y. run k (Wants (pending (Some y) None None)) rest) p.2) (moves f k (Some x)))
+    let x = test s a in (
+      Some x,
+      test t b,
+      refl,
+      then_leads k (Wants fresh) (Has p.0 p.1) (Wants (pending (Some x) None None)) (Has (Some x) (test t b)) (keyword_at keyword.Or o) ts us refl p.3
+          (λ rest. ap (λ y. run k (Wants (pending (Some y) None None)) rest) p.2) (moves f k (Some x)),
+    )
 moves (g.conjunction d) = λ k a. moves d k a None
 moves (g.and {s = s} {t = t} {a = a} {b = b} {ts = ts} {us = us} o d f) = λ k x.
     then_leads k (Wants (pending x None None)) (Has x (test s a)) (Wants (pending x (Some (test s a)) None)) (Has x (infixed cond.And (test s a) (test t b))) (keyword_at keyword.And o) ts us refl (moves d k x)
-        (λ rest. refl) (moves f k x (Some (test s a)))
+    (λ rest. refl) (moves f k x (Some (test s a)))
 moves (g.part d) = λ k a m. moves d k a m None
 moves (g.negation o d) = λ k a m rest free. moves d k a m (Some o) rest free
 moves (g.truth s) = λ k a m n rest free. refl

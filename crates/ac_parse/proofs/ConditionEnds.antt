@@ -50,7 +50,7 @@ right_completed k p r a m =
       tree = h.0;
       tokens = e.tokens ++ closers k;
       reads = side_path e.tokens (closers k) k p (Right r a) m e.reaches.last e.reaches.path
-        ∙ (right_ends k p r a e.tree e.reaches.last (closers k) e.reaches.gives (free_closers k) ∙ h.1)
+          ∙ (right_ends k p r a e.tree e.reaches.last (closers k) e.reaches.gives (free_closers k) ∙ h.1);
     }
 
 completed : (k : Stack) (s : CondState) → Completed k s
@@ -64,7 +64,7 @@ completed k (Compares p Left m) =
       tree = c.tree;
       tokens = e.tokens ++ sign_at (relation_sign relation.Eq) nowhere ∷ c.tokens;
       reads = side_path e.tokens (sign_at (relation_sign relation.Eq) nowhere ∷ c.tokens) k p Left m e.reaches.last e.reaches.path
-        ∙ (relation_step k p e.reaches.last e.tree relation.Eq nowhere c.tokens e.reaches.gives ∙ c.reads)
+          ∙ (relation_step k p e.reaches.last e.tree relation.Eq nowhere c.tokens e.reaches.gives ∙ c.reads);
     }
 
 pub record Ending (m : CondReading) : Type 0 where

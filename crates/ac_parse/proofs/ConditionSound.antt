@@ -81,9 +81,13 @@ all_ored a x us h = rw h.2 (ored a x h.0 h.1 h.3 h.4)
 
 part_read : (k : Stack) (p : Before) (e : Test) (pre us : Tokens) → Read k (Wants p) pre → SpellsTest Part e us → Read k (Has p.or (conjunct_of p e)) (pre ++ us)
 part_read k p e pre us h d =
-    let q = h.4.4 in
-    (h.0, h.4.0 ++ (q.0 ++ (q.1 ++ us)), rw (h.2, h.4.2, q.2) (simp append_assoc), h.3,
-        (h.4.0, q.0 ++ (q.1 ++ us), refl, h.4.3, anded p.and (negated p.not e) q.0 (q.1 ++ us) q.3 (noted p.not e q.1 us q.4 d)))
+    let q = h.4.4 in (
+      h.0,
+      h.4.0 ++ (q.0 ++ (q.1 ++ us)),
+      rw (h.2, h.4.2, q.2) (simp append_assoc),
+      h.3,
+      (h.4.0, q.0 ++ (q.1 ++ us), refl, h.4.3, anded p.and (negated p.not e) q.0 (q.1 ++ us) q.3 (noted p.not e q.1 us q.4 d)),
+    )
 
 abbrev pub After : Option CondReading → Tokens → Type 0
 After None ts = Unit {0}
@@ -114,9 +118,13 @@ want_read k p s (mark.Keyword keyword.True) pre h = part_read k p (made s cond.T
 want_read k p s (mark.Keyword keyword.False) pre h = part_read k p (made s cond.False) pre (keyword_at keyword.False s ∷ []) h (g.falsity s)
 want_read k p s (mark.Keyword keyword.Not) pre h = note_read k p.or p.and p.not s pre h
 want_read k p s (mark.Sign sign.OpenBrace) pre h =
-    let brace = sign_at sign.OpenBrace s ∷ [] in
-    (pre ++ brace, [], sym (append-nil (pre ++ brace)), (h.0, h.1 ++ brace, rw h.2 (simp append_assoc), h.3, (h.1, brace, refl, h.4, refl)),
-        ([], [], refl, refl, ([], [], refl, refl, refl)))
+    let brace = sign_at sign.OpenBrace s ∷ [] in (
+      pre ++ brace,
+      [],
+      sym (append-nil (pre ++ brace)),
+      (h.0, h.1 ++ brace, rw h.2 (simp append_assoc), h.3, (h.1, brace, refl, h.4, refl)),
+      ([], [], refl, refl, ([], [], refl, refl, refl)),
+    )
 want_read k p s m pre h = first_read k p (token m s) (expression.wanting [] expression.fresh s m) pre refl h
 
 have_read : (k : Stack) (a : Option Test) (x : Test) (s : Span) (m : Mark) (pre : Tokens) → Read k (Has a x) pre → After (having k a x s m) (pre ++ token m s ∷ [])
@@ -142,9 +150,13 @@ relate_read : (k : Stack) (p : Before) (a : Operand) (s : Span) (m : Mark) (o : 
     After (relating k p a o) ((ks ++ (ps ++ us)) ++ token m s ∷ [])
 relate_read k p a s m None ks ps us e i j d = tt
 relate_read k p a s m (Some r) ks ps us e i j d =
-    let word = token m s ∷ [] in
-    (ks, ps ++ ((us ++ word) ++ []), simp (append_assoc, append-nil), i,
-        (ps, (us ++ word) ++ [], refl, j, (us ++ word, [], refl, (s, (us, word, refl, d, ap (λ m. token m s ∷ []) (relation_mark m r e))), refl)))
+    let word = token m s ∷ [] in (
+      ks,
+      ps ++ ((us ++ word) ++ []),
+      simp (append_assoc, append-nil),
+      i,
+      (ps, (us ++ word) ++ [], refl, j, (us ++ word, [], refl, (s, (us, word, refl, d, ap (λ m. token m s ∷ []) (relation_mark m r e))), refl)),
+    )
 
 -- a whole comparison
 compared_read : (k : Stack) (p : Before) (r : RelOp) (a b : Operand) (m : Reading) (pre : Tokens) → expression.value m ≡ Some b → Read k (Compares p (Right r a) m) pre →
@@ -166,9 +178,14 @@ side_read : (k : Stack) (p : Before) (side : Side) (m : Reading) (t : Token) (pr
 side_read k p side m t pre h =
     let q = h.4.4 in
     inside_cases (comparing k p side) (behind k p side t.span t.mark) (λ o. After o (pre ++ t ∷ [])) (expression.is_own m.stack t.mark) (expression.step m t) (expression.value m) tt
-      (λ j e. (h.0, h.4.0 ++ (q.0 ++ (q.1 ++ t ∷ [])), rw (h.2, h.4.2, q.2) (simp append_assoc), h.3,
-          (h.4.0, q.0 ++ (q.1 ++ t ∷ []), refl, h.4.3, (q.0, q.1 ++ t ∷ [], refl, q.3, path_more expression.step q.1 expression.start m j t q.4 e))))
-      (λ x v. behind_read k p side m x t pre v h)
+    (λ j e. (
+      h.0,
+      h.4.0 ++ (q.0 ++ (q.1 ++ t ∷ [])),
+      rw (h.2, h.4.2, q.2) (simp append_assoc),
+      h.3,
+      (h.4.0, q.0 ++ (q.1 ++ t ∷ []), refl, h.4.3, (q.0, q.1 ++ t ∷ [], refl, q.3, path_more expression.step q.1 expression.start m j t q.4 e)),
+    ))
+    (λ x v. behind_read k p side m x t pre v h)
 
 state_read : (k : Stack) (s : CondState) (t : Token) (pre : Tokens) → Read k s pre → After (step_at k s t) (pre ++ t ∷ [])
 state_read k (Wants p) t pre h = want_read k p t.span t.mark pre h

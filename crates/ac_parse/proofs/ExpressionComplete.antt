@@ -76,18 +76,26 @@ mutual
   moves (g.sum {s = s} {a = a} d) = λ k. (adding.Nothing, operand s a, refl, moves d k adding.Nothing)
   moves (g.plus {s = s} {t = t} {a = a} {b = b} {ts = ts} {us = us} o d f) = λ k.
       let p = moves d k in
-      let x = operand s a in
-      (adding.Plus x, operand t b, refl, then_leads k (Want fresh) (Have p.0 p.1) (Want (pending (adding.Plus x) None None)) (Have (adding.Plus x) (operand t b)) (sign_at sign.Plus o) ts us (λ e. cc) p.3
-          (λ rest. ap (λ y. run k (Want (pending (adding.Plus y) None None)) rest) p.2) (moves f k (adding.Plus x)))
+      let x = operand s a in (
+        adding.Plus x,
+        operand t b,
+        refl,
+        then_leads k (Want fresh) (Have p.0 p.1) (Want (pending (adding.Plus x) None None)) (Have (adding.Plus x) (operand t b)) (sign_at sign.Plus o) ts us (λ e. cc) p.3
+            (λ rest. ap (λ y. run k (Want (pending (adding.Plus y) None None)) rest) p.2) (moves f k (adding.Plus x)),
+      )
   moves (g.minus {s = s} {t = t} {a = a} {b = b} {ts = ts} {us = us} o d f) = λ k.
       let p = moves d k in
-      let x = operand s a in
-      (adding.Minus x, operand t b, refl, then_leads k (Want fresh) (Have p.0 p.1) (Want (pending (adding.Minus x) None None)) (Have (adding.Minus x) (operand t b)) (sign_at sign.Minus o) ts us (λ e. cc) p.3
-          (λ rest. ap (λ y. run k (Want (pending (adding.Minus y) None None)) rest) p.2) (moves f k (adding.Minus x)))
+      let x = operand s a in (
+        adding.Minus x,
+        operand t b,
+        refl,
+        then_leads k (Want fresh) (Have p.0 p.1) (Want (pending (adding.Minus x) None None)) (Have (adding.Minus x) (operand t b)) (sign_at sign.Minus o) ts us (λ e. cc) p.3
+            (λ rest. ap (λ y. run k (Want (pending (adding.Minus y) None None)) rest) p.2) (moves f k (adding.Minus x)),
+      )
   moves (g.term d) = λ k a. moves d k a None
   moves (g.times {s = s} {t = t} {a = a} {b = b} {ts = ts} {us = us} o d f) = λ k x.
       then_leads k (Want (pending x None None)) (Have x (operand s a)) (Want (pending x (Some (operand s a)) None)) (Have x (infixed expr.Mul (operand s a) (operand t b))) (sign_at sign.Star o) ts us (λ e. cc) (moves d k x)
-          (λ rest. refl) (moves f k x (Some (operand s a)))
+      (λ rest. refl) (moves f k x (Some (operand s a)))
   moves (g.factor d) = λ k a m. moves d k a m None
   moves (g.negative o d) = λ k a m rest free. moves d k a m (Some o) rest free
   moves (g.number n s) = λ k a m o rest free. refl
@@ -99,7 +107,7 @@ mutual
       let after : Operand → State = λ y. Have a (multiplied m (negated n (operand (join o c) y.expr))) in
       ap (run outer (Want fresh)) (append_assoc ts (sign_at sign.CloseParen c ∷ []) rest)
       ∙ closed_leads outer k (Want fresh) (Have p.0 p.1) (after (operand s e)) (sign_at sign.CloseParen c) ts (λ f. cc) p.3
-          (λ rest. ap (λ y. run k (after y) rest) p.2) rest
+      (λ rest. ap (λ y. run k (after y) rest) p.2) rest
 
   index_moves : {t : Span} {i : Index} {ts : Tokens} → SpellsIndex t i ts → IndexMoves t i ts
   index_moves (g.one {s = s} {a = e} {ts = ts} o c d) = λ k q x n rest.
@@ -108,7 +116,7 @@ mutual
       let after : Operand → State = λ y. Have q.sum (term_of q (made (join n c) (expr.Read x (index.One y.expr)))) in
       ap (run outer (Want fresh)) (append_assoc ts (sign_at sign.CloseBracket c ∷ []) rest)
       ∙ closed_leads outer k (Want fresh) (Have p.0 p.1) (after (operand s e)) (sign_at sign.CloseBracket c) ts (λ f. cc) p.3
-          (λ rest. ap (λ y. run k (after y) rest) p.2) rest
+      (λ rest. ap (λ y. run k (after y) rest) p.2) rest
   index_moves (g.two {s = s} {t = t} {a = a} {b = b} {ts = ts} {us = us} o m c d f) = λ k q x n rest.
       let outer : Stack = opened (bracket.First x n) q ∷ k in
       let second : Expr → Stack = λ y. opened (bracket.Second x n y) q ∷ k in
@@ -118,10 +126,10 @@ mutual
       let close = sign_at sign.CloseBracket c in
       ap (run outer (Want fresh)) (append_assoc ts (sign_at sign.Comma m ∷ (us ++ close ∷ [])) rest)
       ∙ (closed_leads outer (second a) (Want fresh) (Have p.0 p.1) (Want fresh) (sign_at sign.Comma m) ts (λ f. cc) p.3
-          (λ rest. ap (λ (y : Operand). run (second y.expr) (Want fresh) rest) p.2) ((us ++ close ∷ []) ++ rest)
+      (λ rest. ap (λ (y : Operand). run (second y.expr) (Want fresh) rest) p.2) ((us ++ close ∷ []) ++ rest)
       ∙ (ap (run (second a) (Want fresh)) (append_assoc us (close ∷ []) rest)
       ∙ closed_leads (second a) k (Want fresh) (Have r.0 r.1) (after (operand t b)) close us (λ f. cc) r.3
-          (λ rest. ap (λ y. run k (after y) rest) r.2) rest))
+      (λ rest. ap (λ y. run k (after y) rest) r.2) rest))
 
 -- what is spelled is read
 pub complete : {s : Span} {e : Expr} {ts : Tokens} → SpellsExpr Sum s e ts → runs start ts ≡ Some (operand s e)

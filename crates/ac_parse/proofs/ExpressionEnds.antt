@@ -37,17 +37,19 @@ ending (Have a x) ts = ts
 
 have_ends : (k : Stack) (a : Adding) (x : Operand) → (e : Operand) × (runs (reading k (Have a x)) (closers k) ≡ Some e)
 have_ends [] a x = (added a x, refl)
-have_ends (o ∷ k) a x = elim o.bracket as (λ b. (e : Operand) × (runs (reading (opened b o.before ∷ k) (Have a x)) (closer b ∷ closers k) ≡ Some e))
-  [ bracket.Parenthesis s ↦ have_ends k _ _
+have_ends (o ∷ k) a x = elim o.bracket as (λ b. (e : Operand) × (runs (reading (opened b o.before ∷ k) (Have a x)) (closer b ∷ closers k) ≡ Some e)) [
+  | bracket.Parenthesis s ↦ have_ends k _ _
   | bracket.First n s ↦ have_ends k _ _
-  | bracket.Second n s a ↦ have_ends k _ _ ]
+  | bracket.Second n s a ↦ have_ends k _ _
+]
 
 named_ends : (k : Stack) (p : Pending) (x : Word) (s : Span) → (e : Operand) × (runs (reading k (Named p x s)) (closers k) ≡ Some e)
 named_ends [] p x s = (_, refl)
-named_ends (o ∷ k) p x s = elim o.bracket as (λ b. (e : Operand) × (runs (reading (opened b o.before ∷ k) (Named p x s)) (closer b ∷ closers k) ≡ Some e))
-  [ bracket.Parenthesis s ↦ have_ends k _ _
+named_ends (o ∷ k) p x s = elim o.bracket as (λ b. (e : Operand) × (runs (reading (opened b o.before ∷ k) (Named p x s)) (closer b ∷ closers k) ≡ Some e)) [
+  | bracket.Parenthesis s ↦ have_ends k _ _
   | bracket.First n s ↦ have_ends k _ _
-  | bracket.Second n s a ↦ have_ends k _ _ ]
+  | bracket.Second n s a ↦ have_ends k _ _
+]
 
 state_ends : (k : Stack) (s : State) → (e : Operand) × (runs (reading k s) (ending s (closers k)) ≡ Some e)
 state_ends k (Want p) = have_ends k _ _

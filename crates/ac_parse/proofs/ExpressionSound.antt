@@ -85,15 +85,23 @@ all_summed a x us h = rw h.2 (summed a x h.0 h.1 h.3 h.4)
 -- an atom comes
 atom_read : (k : Stack) (p : Pending) (e : Operand) (pre us : Tokens) → Read k (Want p) pre → SpellsOperand Atom e us → Read k (Have p.sum (term_of p e)) (pre ++ us)
 atom_read k p e pre us h d =
-    let q = h.4.4 in
-    (h.0, h.4.0 ++ (q.0 ++ (q.1 ++ us)), rw (h.2, h.4.2, q.2) (simp append_assoc), h.3,
-        (h.4.0, q.0 ++ (q.1 ++ us), refl, h.4.3, product p.product (negated p.minus e) q.0 (q.1 ++ us) q.3 (signed p.minus e q.1 us q.4 d)))
+    let q = h.4.4 in (
+      h.0,
+      h.4.0 ++ (q.0 ++ (q.1 ++ us)),
+      rw (h.2, h.4.2, q.2) (simp append_assoc),
+      h.3,
+      (h.4.0, q.0 ++ (q.1 ++ us), refl, h.4.3, product p.product (negated p.minus e) q.0 (q.1 ++ us) q.3 (signed p.minus e q.1 us q.4 d)),
+    )
 
 -- a bracket opens
 open_read : (k : Stack) (p : Pending) (b : Bracket) (pre us : Tokens) → Read k (Want p) pre → InBracket b us → Read (opened b p ∷ k) (Want fresh) (pre ++ us)
-open_read k p b pre us h i =
-    (pre ++ us, [], sym (append-nil (pre ++ us)), (h.0, h.1 ++ us, rw h.2 (simp append_assoc), h.3, (h.1, us, refl, h.4, i)),
-        ([], [], refl, refl, ([], [], refl, refl, refl)))
+open_read k p b pre us h i = (
+  pre ++ us,
+  [],
+  sym (append-nil (pre ++ us)),
+  (h.0, h.1 ++ us, rw h.2 (simp append_assoc), h.3, (h.1, us, refl, h.4, i)),
+  ([], [], refl, refl, ([], [], refl, refl, refl)),
+)
 
 -- what a step leads to has been read
 abbrev pub After : Option Reading → Tokens → Type 0
@@ -132,7 +140,7 @@ next_read k (bracket.Second n s a) p c x ks ps bs us i j l d = tt
 -- a stack that is closed
 closing_read : (close : Stack → Bracket → Pending → Span → Operand → Option Reading) (m : Mark) (k : Stack) (c : Span) (x : Operand) (ks us : Tokens) →
     ((k : Stack) (b : Bracket) (p : Pending) (c : Span) (x : Operand) (ks ps bs us : Tokens) →
-        InStack k ks → InPending p ps → InBracket b bs → SpellsOperand Sum x us → After (close k b p c x) ((ks ++ (ps ++ bs)) ++ (us ++ token m c ∷ []))) →
+    InStack k ks → InPending p ps → InBracket b bs → SpellsOperand Sum x us → After (close k b p c x) ((ks ++ (ps ++ bs)) ++ (us ++ token m c ∷ []))) →
     InStack k ks → SpellsOperand Sum x us → After (closing close k c x) (ks ++ (us ++ token m c ∷ []))
 closing_read close m [] c x ks us by i d = tt
 closing_read close m (o ∷ k) c x ks us by i d =

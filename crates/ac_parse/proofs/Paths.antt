@@ -21,9 +21,10 @@ go_on step value o ts = elim o [ None ↦ None | Some n ↦ runs step value n ts
 pub reached : {S V : Type 0} (step : S → Token → Option S) (value : S → Option V) (ts : Tokens) (m : S) (v : V) → runs step value m ts ≡ Some v → Reaches step value m ts v
 reached step value [] m v h = record { last = m; path = refl; gives = h }
 reached {S = S} step value (t ∷ ts) m v h =
-    (elim (step m t) as (λ (o : Option S). o ≡ step m t → go_on step value o ts ≡ Some v → Reaches step value m (t ∷ ts) v)
-      [ None ↦ λ o g. cc
-      | Some j ↦ λ o g. let r = reached step value ts j v g in record { last = r.last; path = (j, sym o, r.path); gives = r.gives } ])
+    (elim (step m t) as (λ (o : Option S). o ≡ step m t → go_on step value o ts ≡ Some v → Reaches step value m (t ∷ ts) v) [
+      | None ↦ λ o g. cc
+      | Some j ↦ λ o g. let r = reached step value ts j v g in record { last = r.last; path = (j, sym o, r.path); gives = r.gives }
+    ])
     refl h
 
 pub path_runs : {S V : Type 0} (step : S → Token → Option S) (value : S → Option V) (ts rest : Tokens) (m n : S) → IsPath step m ts n →

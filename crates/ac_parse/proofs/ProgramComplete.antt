@@ -86,8 +86,8 @@ body_leads ts rest ds b e m xs r =
     let t = keyword_at keyword.End e in
     path_runs step value ts (t ∷ rest) (body_of ds b m) (body_of ds b l) (path_within statement.step step (body_of ds b) (body_stays ds b) ts m l r.path)
     ∙ step_runs step value (body_of ds b l) (Whole (program_of ds b e xs)) t rest
-        (inside_passed (body_of ds b) (body_ends ds b e t.mark) (statement.is_own l.stack t.mark) (statement.step l t) (statement.value l) xs
-          (ap (λ k. statement.is_own k t.mark) (block_closed l xs r.gives)) r.gives)
+    (inside_passed (body_of ds b) (body_ends ds b e t.mark) (statement.is_own l.stack t.mark) (statement.step l t) (statement.value l) xs
+    (ap (λ k. statement.is_own k t.mark) (block_closed l xs r.gives)) r.gives)
 
 -- the first token of a declaration begins it
 item_begins : {a : Item} {ts : Tokens} → SpellsItem a ts → (us : Tokens) (b : Span) → (first_span (ts ++ us) b).start ≡ a.node.span.start

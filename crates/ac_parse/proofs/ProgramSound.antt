@@ -140,7 +140,7 @@ high_ends_read : (ds : List Item) (s : Span) (x : Word) (a : Option Extents) (lo
     Ended (high_ends ds s x a low k e m) m e bs us vs
 high_ends_read ds s x a low k e (mark.Sign sign.Semicolon) bs us vs b h d =
     whole_read ds (join s e) x (input_kind a low k) bs (us ++ (vs ++ sign_at sign.Semicolon e ∷ [])) b
-      (subst (λ ts. SpellsItem (declaration (join s e) x (input_kind a low k)) ts) (rw h.5 (simp append_assoc)) (input_spelled s x h.0 h.1 h.2 e a low k h.3 h.4 vs h.6 h.7 d))
+    (subst (λ ts. SpellsItem (declaration (join s e) x (input_kind a low k)) ts) (rw h.5 (simp append_assoc)) (input_spelled s x h.0 h.1 h.2 e a low k h.3 h.4 vs h.6 h.7 d))
 high_ends_read ds s x a low k e _ bs us vs b h d = tt
 
 int_ends_read : (ds : List Item) (u : IntUse) (k : ℤ) (e : Span) (m : Mark) (bs us vs : Tokens) → SpellsItems ds bs → InUse u us → SpellsInt k vs → Ended (int_ends ds u k e m) m e bs us vs
@@ -194,7 +194,7 @@ close_read ds w s x (Some f) a e bs us b h =
     let close = sign_at sign.CloseBracket e ∷ [] in
     let q = h.5 in
     on ds (Extended w s x (extents_of (Some f) a)) bs (us ++ close) b
-      (h.0, sign_at sign.OpenBracket h.1 ∷ (q.1 ++ sign_at sign.Comma q.0 ∷ (h.3 ++ close)), rw (h.4, q.2) (simp append_assoc), g.two h.1 q.0 e q.3 h.6)
+    (h.0, sign_at sign.OpenBracket h.1 ∷ (q.1 ++ sign_at sign.Comma q.0 ∷ (h.3 ++ close)), rw (h.4, q.2) (simp append_assoc), g.two h.1 q.0 e q.3 h.6)
 
 comma_read : (ds : List Item) (w : Storage) (s : Span) (x : Word) (f : Option Extent) (a : Extent) (e : Span) (bs us : Tokens) → SpellsItems ds bs → InState (ExtentRead w s x f a) us →
     After (next_extent ds w s x f a) (bs ++ (us ++ sign_at sign.Comma e ∷ []))
@@ -227,15 +227,15 @@ end_read : (ds : List Item) (b e : Span) (m : Mark) (xs : List Stmt) (bs us : To
     After (body_ends ds b e m xs) (bs ++ keyword_at keyword.Begin b ∷ (us ++ token m e ∷ []))
 end_read ds b e (mark.Keyword keyword.End) xs bs us d r =
     subst (λ i. SpellsProgram (record { node = node (record { start = i; end = e.end }); items = ds; body = xs }) (bs ++ keyword_at keyword.Begin b ∷ (us ++ keyword_at keyword.End e ∷ [])))
-      (items_begin d b) (g.program b e d r)
+    (items_begin d b) (g.program b e d r)
 end_read ds b e _ xs bs us d r = tt
 
 body_read : (ds : List Item) (b : Span) (m : StmtReading) (t : Token) (bs us : Tokens) → SpellsItems ds bs → IsPath statement.step statement.start us m →
     After (step (Body ds b m) t) (bs ++ keyword_at keyword.Begin b ∷ (us ++ t ∷ []))
 body_read ds b m t bs us d p =
     inside_cases (body_of ds b) (body_ends ds b t.span t.mark) (λ o. After o (bs ++ keyword_at keyword.Begin b ∷ (us ++ t ∷ []))) (statement.is_own m.stack t.mark) (statement.step m t) (statement.value m) tt
-      (λ j e. (bs, keyword_at keyword.Begin b ∷ (us ++ t ∷ []), refl, d, (keyword_at keyword.Begin b ∷ [], us ++ t ∷ [], refl, refl, path_more statement.step us statement.start m j t p e)))
-      (λ xs v. end_read ds b t.span t.mark xs bs us d (block_spelled us m xs p v))
+    (λ j e. (bs, keyword_at keyword.Begin b ∷ (us ++ t ∷ []), refl, d, (keyword_at keyword.Begin b ∷ [], us ++ t ∷ [], refl, refl, path_more statement.step us statement.start m j t p e)))
+    (λ xs v. end_read ds b t.span t.mark xs bs us d (block_spelled us m xs p v))
 
 step_read : (m : ProgramReading) (t : Token) (pre : Tokens) → IsRead m pre → After (step m t) (pre ++ t ∷ [])
 step_read (Declarations ds s) t pre h =

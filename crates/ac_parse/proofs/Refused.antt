@@ -96,20 +96,23 @@ reads_say (t ∷ us) n ts m d o p s dh oh =
     let dn = nested_more ts t d dh in
     let on = operated_more ts t o oh in
     let stepped : Option ProgramReading → Result Program Refusal = λ x. elim x [ None ↦ Err (Unexpected t.span) | Some j ↦ reads n j (nested d t.mark) (operated o t.mark) us ] in
-    (elim (nat_lt 64 (nested d t.mark)) as (λ b. nat_lt 64 (nested d t.mark) ≡ b → Says n (ts ++ t ∷ us) (if b then Err Nesting else (if nat_lt 256 (operated o t.mark) then Err Operators else stepped (step m t))))
-      [ true ↦ λ e. refused n ts us m t Nesting p s (subst (λ k. 64 < k) dn (big 64 (nested d t.mark) e))
+    (elim (nat_lt 64 (nested d t.mark)) as (λ b. nat_lt 64 (nested d t.mark) ≡ b → Says n (ts ++ t ∷ us) (if b then Err Nesting else (if nat_lt 256 (operated o t.mark) then Err Operators else stepped (step m t)))) [
+      | true ↦ λ e. refused n ts us m t Nesting p s (subst (λ k. 64 < k) dn (big 64 (nested d t.mark) e))
       | false ↦ λ e.
           let low = subst (λ k. k ≤ 64) dn (small 64 (nested d t.mark) e) in
-          (elim (nat_lt 256 (operated o t.mark)) as (λ b. nat_lt 256 (operated o t.mark) ≡ b → Says n (ts ++ t ∷ us) (if b then Err Operators else stepped (step m t)))
-            [ true ↦ λ f. refused n ts us m t Operators p s (low, subst (λ k. 256 < k) on (big 256 (operated o t.mark) f))
+          (elim (nat_lt 256 (operated o t.mark)) as (λ b. nat_lt 256 (operated o t.mark) ≡ b → Says n (ts ++ t ∷ us) (if b then Err Operators else stepped (step m t))) [
+            | true ↦ λ f. refused n ts us m t Operators p s (low, subst (λ k. 256 < k) on (big 256 (operated o t.mark) f))
             | false ↦ λ f.
                 let few = subst (λ k. k ≤ 256) on (small 256 (operated o t.mark) f) in
                 let more = stays_more ts t s low few in
-                (elim (step m t) as (λ (x : Option ProgramReading). step m t ≡ x → Says n (ts ++ t ∷ us) (stepped x))
-                  [ None ↦ λ g. refused n ts us m t (Unexpected t.span) p s (refl, stuck ts m t p g, more)
+                (elim (step m t) as (λ (x : Option ProgramReading). step m t ≡ x → Says n (ts ++ t ∷ us) (stepped x)) [
+                  | None ↦ λ g. refused n ts us m t (Unexpected t.span) p s (refl, stuck ts m t p g, more)
                   | Some j ↦ λ g.
                       subst (λ vs. Says n vs (reads n j (nested d t.mark) (operated o t.mark) us)) (append_assoc ts (t ∷ []) us)
-                        (reads_say us n (ts ++ t ∷ []) j (nested d t.mark) (operated o t.mark) (path_more step ts start m j t p g) more dn on) ]) refl ]) refl ]) refl
+                      (reads_say us n (ts ++ t ∷ []) j (nested d t.mark) (operated o t.mark) (path_more step ts start m j t p g) more dn on)
+                ]) refl
+          ]) refl
+    ]) refl
 
 pub all_say : (n : ℕ) (ts : Tokens) → Says n ts (read_all n ts)
 all_say n ts = reads_say ts n [] start 0 0 refl stays_nothing refl refl

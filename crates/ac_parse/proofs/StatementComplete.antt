@@ -48,8 +48,8 @@ expression_leads ts rest k xs u m a t n r free next =
     let l = r.last in
     path_runs step value ts (t ∷ rest) (evaluating k xs u m) (evaluating k xs u l) (path_within expression.step step (evaluating k xs u) (expression_stays k xs u) ts m l r.path)
     ∙ step_runs step value (evaluating k xs u l) n t rest
-        (inside_passed (evaluating k xs u) (behind k xs u t.span t.mark) (expression.is_own l.stack t.mark) (expression.step l t) (expression.value l) a
-          (ap (λ j. expression.is_own j t.mark) (closed l a r.gives) ∙ free) r.gives ∙ next)
+    (inside_passed (evaluating k xs u) (behind k xs u t.span t.mark) (expression.is_own l.stack t.mark) (expression.step l t) (expression.value l) a
+    (ap (λ j. expression.is_own j t.mark) (closed l a r.gives) ∙ free) r.gives ∙ next)
 
 -- a test, and the token behind it
 condition_stays : (k : Stack) (xs : Block) (u : CondUse) (m j : CondReading) (t : Token) → condition.step m t ≡ Some j → step (testing k xs u m) t ≡ Some (testing k xs u j)
@@ -63,7 +63,7 @@ condition_leads ts rest k xs u m c t n r free next =
     let l = r.last in
     path_runs step value ts (t ∷ rest) (testing k xs u m) (testing k xs u l) (path_within condition.step step (testing k xs u) (condition_stays k xs u) ts m l r.path)
     ∙ step_runs step value (testing k xs u l) n t rest
-        (inside_passed (testing k xs u) (tested k xs u t.mark) (condition.is_own t.mark) (condition.step l t) (condition.value l) c free r.gives ∙ next)
+    (inside_passed (testing k xs u) (tested k xs u t.mark) (condition.is_own t.mark) (condition.step l t) (condition.value l) c free r.gives ∙ next)
 
 two_parts : (ts us rest : Tokens) (t e : Token) → (ts ++ t ∷ (us ++ e ∷ [])) ++ rest ≡ ts ++ t ∷ (us ++ e ∷ rest)
 two_parts ts us rest t e = simp append_assoc

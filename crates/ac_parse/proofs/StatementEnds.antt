@@ -73,8 +73,11 @@ use_completed k xs (Value x s) m = by_expression k xs (Value x s) m (sign_at sig
 use_completed k xs (First x s) m = by_expression k xs (First x s) m (sign_at sign.CloseBracket nowhere) refl (λ a. (reading k xs (Indexed x s (index.One a.expr)), refl, indexed_ends k xs x s (index.One a.expr)))
 use_completed k xs (Second x s b) m = by_expression k xs (Second x s b) m (sign_at sign.CloseBracket nowhere) refl (λ a. (reading k xs (Indexed x s (index.Two b a.expr)), refl, indexed_ends k xs x s (index.Two b a.expr)))
 use_completed k xs (Cell x s i) m = cell_ends k xs x s i m
-use_completed k xs (Low s x) m = by_expression k xs (Low s x) m (keyword_at keyword.To nowhere) refl (λ a. (evaluating k xs (High s x a.expr) expression.start, refl,
-    by_expression k xs (High s x a.expr) expression.start (keyword_at keyword.Do nowhere) refl (λ b. (opened k xs (ForBody s x a.expr b.expr), refl, between_ends _ []))))
+use_completed k xs (Low s x) m = by_expression k xs (Low s x) m (keyword_at keyword.To nowhere) refl (λ a. (
+  evaluating k xs (High s x a.expr) expression.start,
+  refl,
+  by_expression k xs (High s x a.expr) expression.start (keyword_at keyword.Do nowhere) refl (λ b. (opened k xs (ForBody s x a.expr b.expr), refl, between_ends _ [])),
+))
 use_completed k xs (High s x a) m = by_expression k xs (High s x a) m (keyword_at keyword.Do nowhere) refl (λ b. (opened k xs (ForBody s x a b.expr), refl, between_ends _ []))
 
 state_completed : (k : Stack) (xs : Block) (s : StmtState) → Completed (reading k xs s)

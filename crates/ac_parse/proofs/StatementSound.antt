@@ -179,9 +179,19 @@ value_read k xs x s a e _ ks bs us vs i b h d = tt
 first_read : (k : Stack) (xs : Block) (x : Word) (s : Span) (a : Operand) (e : Span) (m : Mark) (ks bs us vs : Tokens) → InStack k ks → SpellsBlock xs bs → InUse (First x s) us → SpellsOperand Sum a vs →
     Behind (first_ends k xs x s a m) m e ks bs us vs
 first_read k xs x s a e (mark.Sign sign.CloseBracket) ks bs us vs i b h d =
-    let ts = sign_at sign.OpenBracket h.0 ∷ (vs ++ sign_at sign.CloseBracket e ∷ []) in
-    (ks, bs ++ (us ++ (vs ++ sign_at sign.CloseBracket e ∷ [])), refl, i, (bs, us ++ (vs ++ sign_at sign.CloseBracket e ∷ []), refl, b,
-        (join h.0 e, ts, ap (λ ws. ws ++ (vs ++ sign_at sign.CloseBracket e ∷ [])) h.1, g.one h.0 e d)))
+    let ts = sign_at sign.OpenBracket h.0 ∷ (vs ++ sign_at sign.CloseBracket e ∷ []) in (
+      ks,
+      bs ++ (us ++ (vs ++ sign_at sign.CloseBracket e ∷ [])),
+      refl,
+      i,
+      (
+        bs,
+        us ++ (vs ++ sign_at sign.CloseBracket e ∷ []),
+        refl,
+        b,
+        (join h.0 e, ts, ap (λ ws. ws ++ (vs ++ sign_at sign.CloseBracket e ∷ [])) h.1, g.one h.0 e d),
+      ),
+    )
 first_read k xs x s a e (mark.Sign sign.Comma) ks bs us vs i b h d =
     evaluates_read k xs (Second x s a.expr) ks bs (us ++ (vs ++ sign_at sign.Comma e ∷ [])) i b (h.0, e, a.span, vs, ap (λ ws. ws ++ (vs ++ sign_at sign.Comma e ∷ [])) h.1, d)
 first_read k xs x s a e _ ks bs us vs i b h d = tt
@@ -189,16 +199,26 @@ first_read k xs x s a e _ ks bs us vs i b h d = tt
 second_read : (k : Stack) (xs : Block) (x : Word) (s : Span) (c : Expr) (a : Operand) (e : Span) (m : Mark) (ks bs us vs : Tokens) → InStack k ks → SpellsBlock xs bs → InUse (Second x s c) us → SpellsOperand Sum a vs →
     Behind (second_ends k xs x s c a m) m e ks bs us vs
 second_read k xs x s c a e (mark.Sign sign.CloseBracket) ks bs us vs i b h d =
-    let ts = sign_at sign.OpenBracket h.0 ∷ (h.3 ++ sign_at sign.Comma h.1 ∷ (vs ++ sign_at sign.CloseBracket e ∷ [])) in
-    (ks, bs ++ (us ++ (vs ++ sign_at sign.CloseBracket e ∷ [])), refl, i, (bs, us ++ (vs ++ sign_at sign.CloseBracket e ∷ []), refl, b,
-        (join h.0 e, ts, rw h.4 (simp append_assoc), g.two h.0 h.1 e h.5 d)))
+    let ts = sign_at sign.OpenBracket h.0 ∷ (h.3 ++ sign_at sign.Comma h.1 ∷ (vs ++ sign_at sign.CloseBracket e ∷ [])) in (
+      ks,
+      bs ++ (us ++ (vs ++ sign_at sign.CloseBracket e ∷ [])),
+      refl,
+      i,
+      (
+        bs,
+        us ++ (vs ++ sign_at sign.CloseBracket e ∷ []),
+        refl,
+        b,
+        (join h.0 e, ts, rw h.4 (simp append_assoc), g.two h.0 h.1 e h.5 d),
+      ),
+    )
 second_read k xs x s c a e _ ks bs us vs i b h d = tt
 
 cell_read : (k : Stack) (xs : Block) (x : Word) (s : Span) (j : Index) (a : Operand) (e : Span) (m : Mark) (ks bs us vs : Tokens) → InStack k ks → SpellsBlock xs bs → InUse (Cell x s j) us → SpellsOperand Sum a vs →
     Behind (cell_ends k xs x s j a e m) m e ks bs us vs
 cell_read k xs x s j a e (mark.Sign sign.Semicolon) ks bs us vs i b h d =
     whole_read k xs (join s e) (stmt.Put x j a.expr) ks bs (us ++ (vs ++ sign_at sign.Semicolon e ∷ [])) i b
-      (subst (λ ts. SpellsStmt (statement (join s e) (stmt.Put x j a.expr)) ts) (rw h.3 (simp append_assoc)) (g.put x s h.0 e h.4 d))
+    (subst (λ ts. SpellsStmt (statement (join s e) (stmt.Put x j a.expr)) ts) (rw h.3 (simp append_assoc)) (g.put x s h.0 e h.4 d))
 cell_read k xs x s j a e _ ks bs us vs i b h d = tt
 
 low_read : (k : Stack) (xs : Block) (s : Span) (x : Word) (a : Operand) (e : Span) (m : Mark) (ks bs us vs : Tokens) → InStack k ks → SpellsBlock xs bs → InUse (Low s x) us → SpellsOperand Sum a vs →
@@ -226,8 +246,8 @@ expression_read : (k : Stack) (xs : Block) (u : ExprUse) (m : Reading) (t : Toke
     After (step_at k xs (Expression u m) t) (ks ++ (bs ++ (us ++ (vs ++ t ∷ []))))
 expression_read k xs u m t ks bs us vs i b h p =
     inside_cases (evaluating k xs u) (behind k xs u t.span t.mark) (λ o. After o (ks ++ (bs ++ (us ++ (vs ++ t ∷ []))))) (expression.is_own m.stack t.mark) (expression.step m t) (expression.value m) tt
-      (λ j e. (ks, bs ++ (us ++ (vs ++ t ∷ [])), refl, i, (bs, us ++ (vs ++ t ∷ []), refl, b, (us, vs ++ t ∷ [], refl, h, path_more expression.step vs expression.start m j t p e))))
-      (λ a v. behind_read k xs u a t.span t.mark ks bs us vs i b h (expression_spelled vs m a p v))
+    (λ j e. (ks, bs ++ (us ++ (vs ++ t ∷ [])), refl, i, (bs, us ++ (vs ++ t ∷ []), refl, b, (us, vs ++ t ∷ [], refl, h, path_more expression.step vs expression.start m j t p e))))
+    (λ a v. behind_read k xs u a t.span t.mark ks bs us vs i b h (expression_spelled vs m a p v))
 
 -- behind a test
 then_read : (k : Stack) (xs : Block) (s : Span) (c : Test) (e : Span) (m : Mark) (ks bs us vs : Tokens) → InStack k ks → SpellsBlock xs bs → us ≡ keyword_at keyword.If s ∷ [] → SpellsTest Disjunction c vs →
@@ -251,8 +271,8 @@ condition_read : (k : Stack) (xs : Block) (u : CondUse) (m : CondReading) (t : T
     After (step_at k xs (Condition u m) t) (ks ++ (bs ++ (us ++ (vs ++ t ∷ []))))
 condition_read k xs u m t ks bs us vs i b h p =
     inside_cases (testing k xs u) (tested k xs u t.mark) (λ o. After o (ks ++ (bs ++ (us ++ (vs ++ t ∷ []))))) (condition.is_own t.mark) (condition.step m t) (condition.value m) tt
-      (λ j e. (ks, bs ++ (us ++ (vs ++ t ∷ [])), refl, i, (bs, us ++ (vs ++ t ∷ []), refl, b, (us, vs ++ t ∷ [], refl, h, path_more condition.step vs condition.start m j t p e))))
-      (λ c v. tested_read k xs u c t.span t.mark ks bs us vs i b h (condition_spelled vs m c p v))
+    (λ j e. (ks, bs ++ (us ++ (vs ++ t ∷ [])), refl, i, (bs, us ++ (vs ++ t ∷ []), refl, b, (us, vs ++ t ∷ [], refl, h, path_more condition.step vs condition.start m j t p e))))
+    (λ c v. tested_read k xs u c t.span t.mark ks bs us vs i b h (condition_spelled vs m c p v))
 
 -- the tokens of `for` before its ends, of `use` and of `skip`
 plain_read : (k : Stack) (xs : Block) (s : StmtState) (ks bs us : Tokens) → InStack k ks → SpellsBlock xs bs → InState s us → Read k xs s (ks ++ (bs ++ us))

@@ -25,7 +25,9 @@ impl<T> Stack<T> {
     pub fn new(alloc: Global) -> Stack<T>
         ensures { result ≡ [] }
     {
-        Stack { items: Vec::new(alloc) }
+        Stack {
+            items: Vec::new(alloc),
+        }
     }
 
     /// Takes the top off.
