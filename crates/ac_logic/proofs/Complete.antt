@@ -24,7 +24,6 @@ use Rattle.ac_logic.specs.FormulaText as g
 use Rattle.ac_logic.specs.FormulaText.{Tokens, Names, place_of, number_of, short_of, kind_of, related, TermLevel, Whole, Prod, Fac, Atom, SpellsTerm, SpellsArray, FormulaLevel, Full, Disj, Conj, Neg, Part, SpellsFormula, Goal, Terms, Formulas, Tree, IsTextOf}
 use Rattle.ac_logic.specs.FormulaMachine.{Stack, Machine, if_some, names_of, signed, multiplied, added, pending, fresh, atom_read, number_read, denied, joined, either, before, unbound, part_read, closed, following, having, term_ends, wanting, array_begins, stepped, term_so_far, ended_term, implied, relation_ended, ended_formula, ended, begun, whole, reads}
 
-
 -- a step of the machine
 abbrev pub goes : (g : Goal) → Option Machine → Mark → Tokens → Result (Tree g) Tokens
 goes g o m ms = elim o [ None ↦ Err (m ∷ ms) | Some n ↦ reads g n.0 n.1 ms ]
@@ -118,6 +117,7 @@ symbol_leads g k p s (m ∷ ms) f = ap (λ o. goes g o m ms) (symbol_steps k p s
 
 mutual
   unfolding hidden term_shape term_child array_shape array_child
+
   pub term_moves : {e : Names} {l : TermLevel} {t : Term} {ts rest : Tokens} → SpellsTerm e l t ts rest → (g : Goal) → MovesTerm g e l t ts rest
   term_moves (g.prod {t = t} d) = λ g k n f. (adding.Nothing, t, refl, term_moves d g k n f adding.Nothing)
   term_moves (g.plus {s = s} {t = t} {us = us} c d) = λ g k n f.
@@ -154,7 +154,7 @@ mutual
       let r = term_moves b g (frame.PutSecond s a i ∷ k) n tt in
       let u = term_moves h g (frame.PutValue s a i j ∷ k) n tt in
       put_begins g k s (mark.OpenParen ∷ ts) ∙ (array_moves c g (frame.Put s ∷ k) n slot.Put ∙ (q.3 ∙ (ap (λ y. reads g (frame.PutSecond s a y ∷ k) (state.Factor fresh) vs) q.2
-          ∙ (r.3 ∙ (ap (λ y. reads g (frame.PutValue s a i y ∷ k) (state.Factor fresh) ws) r.2 ∙ (u.3 ∙ ap (λ y. reads g k (state.Array s (PutOf a i j y)) rest) u.2))))))
+      ∙ (r.3 ∙ (ap (λ y. reads g (frame.PutValue s a i y ∷ k) (state.Factor fresh) ws) r.2 ∙ (u.3 ∙ ap (λ y. reads g k (state.Array s (PutOf a i j y)) rest) u.2))))))
 
 -- what begins a term
 mutual
@@ -247,7 +247,7 @@ formula_moves (g.relation {s = s} {ts = ts} {us = us} {rest = rest} r c d) = λ 
     let p = term_moves c Formulas (frame.Left b ∷ k) n tt in
     let q = term_moves d Formulas (frame.Right b s r ∷ k) n (settled_free rest h) in
     left_leads k b ts (term_begins c) ∙ (p.3 ∙ (ap (λ y. reads Formulas (frame.Right b y r ∷ k) (state.Factor fresh) us) p.2
-        ∙ (q.3 ∙ (right_leads Formulas k b s r q.0 q.1 rest h ∙ ap (λ y. reads Formulas k (part_read b (related r s y)) rest) q.2))))
+    ∙ (q.3 ∙ (right_leads Formulas k b s r q.0 q.1 rest h ∙ ap (λ y. reads Formulas k (part_read b (related r s y)) rest) q.2))))
 formula_moves (g.braces {rest = rest} d) = λ k n h b.
     let q = formula_moves d (frame.Braces b ∷ k) n tt in
     q.4 ∙ ap (λ o. goes Formulas o mark.CloseBrace rest) q.3.0

@@ -25,8 +25,6 @@ use Rattle.ac_logic.specs.Patterns.{Scalar, Array, ReadOf, Sum, Difference, Prod
 use Rattle.ac_logic.specs.Opened.{hidden, formula_shape, formula_child, term_shape, term_child, array_shape, array_child}
 use Rattle.ac_logic.specs.FormulaText.{Tokens, Names, place_of, number_of, short_of, kind_of, related, TermLevel, Whole, Prod, Fac, Atom, SpellsTerm, SpellsArray, FormulaLevel, Full, Disj, Conj, Neg, Part, SpellsFormula, Goal, Terms, Formulas, Tree, IsTextOf, Continues, NoneGoesOn, IsUnexpected}
 use Rattle.ac_logic.specs.FormulaMachine.{Stack, Machine, if_some, names_of, signed, multiplied, added, pending, fresh, atom_read, number_read, denied, joined, either, before, unbound, part_read, closed, following, in_index, at_paren, at_bracket, at_comma, at_relation, having, term_ends, wanting, at_minus, array_begins, fresh_read, at_open_paren, at_open_brace, init_named, put_begins, put_named, symbol_ends, array_named, array_read, part_begins, all_named, node_named, stepped, term_so_far, ended_term, implied, relation_ended, ended_formula, ended, begun, whole, reads}
-
-
 use Rattle.ac_logic.specs.declared.mark.Relation.TheVariants as rel
 use Rattle.ac_logic.proofs.Complete.{complete, right_leads, goes, Settled, SettledMark}
 use Rattle.ac_logic.proofs.Sound.{AroundTerm, AroundDue, AroundFormula, AroundArray, Around, Has, After, step_has, begun_has, IsSpelledBy, sound}
@@ -45,10 +43,10 @@ cut_more m rest next (token e d) f n = token e (cut_more m rest next d f n)
 pub reached_more : (g : Goal) (bytes left rest next : List ℕ) (k j : Stack) (s r : State) (m : Mark) → IsReached g bytes k s left → first_token left ≡ Some (m, rest) → stepped k s m ≡ Some (j, r) →
     behind run.Blank rest ≡ next → IsReached g bytes j r next
 reached_more g bytes left rest next k j s r m i f u n = record {
-    before = i.before ++ m ∷ [];
-    cut = cut_more m rest next i.cut f n;
-    leads = λ more. ap (reads g [] (begun g)) (append_assoc i.before (m ∷ []) more) ∙ (i.leads (m ∷ more) ∙ ap (λ o. goes g o m more) u)
-  }
+  before = i.before ++ m ∷ [];
+  cut = cut_more m rest next i.cut f n;
+  leads = λ more. ap (reads g [] (begun g)) (append_assoc i.before (m ∷ []) more) ∙ (i.leads (m ∷ more) ∙ ap (λ o. goes g o m more) u);
+}
 
 -- a sign or word that no formula has
 foreign_ends : (k : Stack) (t : Term) → term_ends k t mark.Foreign ≡ None

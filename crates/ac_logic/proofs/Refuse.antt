@@ -25,8 +25,6 @@ use Rattle.ac_logic.specs.Patterns.{Scalar, Array, ReadOf, Sum, Difference, Prod
 use Rattle.ac_logic.specs.Opened.{hidden, formula_shape, formula_child, term_shape, term_child, array_shape, array_child}
 use Rattle.ac_logic.specs.FormulaText.{Tokens, Names, place_of, number_of, short_of, kind_of, related, TermLevel, Whole, Prod, Fac, Atom, SpellsTerm, SpellsArray, FormulaLevel, Full, Disj, Conj, Neg, Part, SpellsFormula, Goal, Terms, Formulas, Tree, IsTextOf, Continues, NoneGoesOn, IsUnexpected}
 use Rattle.ac_logic.specs.FormulaMachine.{Stack, Machine, if_some, names_of, signed, multiplied, added, pending, fresh, atom_read, number_read, denied, joined, either, before, unbound, part_read, closed, following, in_index, at_paren, at_bracket, at_comma, at_relation, having, term_ends, wanting, at_minus, array_begins, fresh_read, at_open_paren, at_open_brace, init_named, put_begins, put_named, symbol_ends, array_named, array_read, part_begins, all_named, node_named, stepped, term_so_far, ended_term, implied, relation_ended, ended_formula, ended, begun, whole, reads}
-
-
 use Rattle.ac_logic.specs.declared.mark.Relation.TheVariants as rel
 use Rattle.ac_logic.proofs.Complete.{complete, right_leads, goes, Settled, SettledMark}
 use Rattle.ac_logic.proofs.Sound.{AroundTerm, AroundDue, AroundFormula, AroundArray, Around, Has, After, step_has, begun_has, IsSpelledBy, sound}
@@ -114,10 +112,11 @@ pushed g (frame.First p b) k up =
     (λ a x ts rest h. let e = up.0 p.sum (multiplied p.product (signed p.minus (ReadOf b (added a x) zero_term))) ts h.0 h.2 in (mark.CloseBracket ∷ e.0, e.1, e.2), λ a ts rest h. absurd h, λ o f ts rest h. absurd h)
 pushed g (frame.Second p b i) k up =
     (λ a x ts rest h. let e = up.0 p.sum (multiplied p.product (signed p.minus (ReadOf b i (added a x)))) ts h.0 h.3 in (mark.CloseBracket ∷ e.0, e.1, e.2), λ a ts rest h. absurd h, λ o f ts rest h. absurd h)
-pushed g (frame.Put s) k up =
-    (λ a x ts rest h. absurd h,
-     λ a ts rest h. let e = array_up g k up s (PutOf a zero_term zero_term zero_term) ts (mark.Put ∷ mark.OpenParen ∷ rest) h in (mark.Comma ∷ nought ∷ mark.Comma ∷ nought ∷ mark.Comma ∷ nought ∷ mark.CloseParen ∷ e.0, e.1, e.2),
-     λ o f ts rest h. absurd h)
+pushed g (frame.Put s) k up = (
+  λ a x ts rest h. absurd h,
+  λ a ts rest h. let e = array_up g k up s (PutOf a zero_term zero_term zero_term) ts (mark.Put ∷ mark.OpenParen ∷ rest) h in (mark.Comma ∷ nought ∷ mark.Comma ∷ nought ∷ mark.Comma ∷ nought ∷ mark.CloseParen ∷ e.0, e.1, e.2),
+  λ o f ts rest h. absurd h,
+)
 pushed g (frame.PutFirst s b) k up =
     (λ a x ts rest h. let e = array_up g k up s (PutOf b (added a x) zero_term zero_term) ts (mark.Put ∷ mark.OpenParen ∷ h.0) h.1 in (mark.Comma ∷ nought ∷ mark.Comma ∷ nought ∷ mark.CloseParen ∷ e.0, e.1, e.2), λ a ts rest h. absurd h, λ o f ts rest h. absurd h)
 pushed g (frame.PutSecond s b i) k up =
@@ -127,18 +126,26 @@ pushed g (frame.PutValue s b i j) k up =
 pushed g (frame.Left b) k up =
     (λ a x ts rest h. let e = right_up g k up b (added a x) rel.LessEqual adding.Nothing zero_term ts h.0 h.1 in (mark.Relation rel.LessEqual ∷ nought ∷ e.0, e.1, e.2), λ a ts rest h. absurd h, λ o f ts rest h. absurd h)
 pushed g (frame.Right b s r) k up = (λ a x ts rest h. right_up g k up b s r a x ts h.0 h.2, λ a ts rest h. absurd h, λ o f ts rest h. absurd h)
-pushed g (frame.Antecedent y) k up =
-    (λ a x ts rest h. absurd h, λ a ts rest h. absurd h,
-     λ o f ts rest h. let e = up.2 None (Implication y (either o f)) ts h.0 h.1 in (e.0, e.1, e.2, antecedent_leads g k y o f e.0 e.1 ∙ e.3))
-pushed g (frame.Braces b) k up =
-    (λ a x ts rest h. absurd h, λ a ts rest h. absurd h,
-     λ o f ts rest h. let e = part_up g k up b (either o f) ts h.0 h.1 in (mark.CloseBrace ∷ e.0, tt, e.2, e.3))
-pushed g (frame.All b y) k up =
-    (λ a x ts rest h. absurd h, λ a ts rest h. absurd h,
-     λ o f ts rest h. let e = part_up g k up b (Every (either o f)) ts h.0 h.1 in (mark.CloseBrace ∷ e.0, tt, e.2, e.3))
-pushed g (frame.Lab b l) k up =
-    (λ a x ts rest h. absurd h, λ a ts rest h. absurd h,
-     λ o f ts rest h. let e = part_up g k up b (Labelled l (either o f)) ts h.0 h.2 in (mark.CloseBrace ∷ e.0, tt, e.2, e.3))
+pushed g (frame.Antecedent y) k up = (
+  λ a x ts rest h. absurd h,
+  λ a ts rest h. absurd h,
+  λ o f ts rest h. let e = up.2 None (Implication y (either o f)) ts h.0 h.1 in (e.0, e.1, e.2, antecedent_leads g k y o f e.0 e.1 ∙ e.3),
+)
+pushed g (frame.Braces b) k up = (
+  λ a x ts rest h. absurd h,
+  λ a ts rest h. absurd h,
+  λ o f ts rest h. let e = part_up g k up b (either o f) ts h.0 h.1 in (mark.CloseBrace ∷ e.0, tt, e.2, e.3),
+)
+pushed g (frame.All b y) k up = (
+  λ a x ts rest h. absurd h,
+  λ a ts rest h. absurd h,
+  λ o f ts rest h. let e = part_up g k up b (Every (either o f)) ts h.0 h.1 in (mark.CloseBrace ∷ e.0, tt, e.2, e.3),
+)
+pushed g (frame.Lab b l) k up = (
+  λ a x ts rest h. absurd h,
+  λ a ts rest h. absurd h,
+  λ o f ts rest h. let e = part_up g k up b (Labelled l (either o f)) ts h.0 h.2 in (mark.CloseBrace ∷ e.0, tt, e.2, e.3),
+)
 
 all_end : (g : Goal) (k : Stack) → AllEnd g k
 all_end g [] = (bottom_term g, λ a ts rest h. absurd h, bottom_formula g)
@@ -203,11 +210,12 @@ stops g [] k s all_ rest i h =
     let e = whole_stops (ended g k s) rest h in
     subst (λ q. StopsBehind g k s all_ [] q) (sym e.1) ([], refl, k, s, (λ more. refl), e.0, i)
 stops g (m ∷ ms) k s all_ rest i h =
-    (elim (stepped k s m) as (λ (o : Option Machine). o ≡ stepped k s m → After g o all_ ms → ◌≡◌ {A = Result (Tree g) Tokens} (elim o [ None ↦ Err (m ∷ ms) | Some n ↦ reads g n.0 n.1 ms ]) (Err rest) → StopsBehind g k s all_ (m ∷ ms) rest)
-      [ None ↦ λ u a e. let same : m ∷ ms ≡ rest = err_same {A = Tree g} (m ∷ ms) rest e in subst (λ q. StopsBehind g k s all_ (m ∷ ms) q) same ([], refl, k, s, (λ more. refl), sym u, i)
+    (elim (stepped k s m) as (λ (o : Option Machine). o ≡ stepped k s m → After g o all_ ms → ◌≡◌ {A = Result (Tree g) Tokens} (elim o [ None ↦ Err (m ∷ ms) | Some n ↦ reads g n.0 n.1 ms ]) (Err rest) → StopsBehind g k s all_ (m ∷ ms) rest) [
+      | None ↦ λ u a e. let same : m ∷ ms ≡ rest = err_same {A = Tree g} (m ∷ ms) rest e in subst (λ q. StopsBehind g k s all_ (m ∷ ms) q) same ([], refl, k, s, (λ more. refl), sym u, i)
       | Some n ↦ λ u a e.
           let r = stops g ms n.0 n.1 all_ rest a e in
-          (m ∷ r.0, ap (λ us. m ∷ us) r.1, r.2, r.3, (λ more. ap (λ o. goes g o m (r.0 ++ more)) (sym u) ∙ r.4 more), r.5, r.6) ])
+          (m ∷ r.0, ap (λ us. m ∷ us) r.1, r.2, r.3, (λ more. ap (λ o. goes g o m (r.0 ++ more)) (sym u) ∙ r.4 more), r.5, r.6)
+    ])
     refl (step_has g k s m all_ ms i) h
 
 no_further : (g : Goal) (k : Stack) (s : State) (before rest : Tokens) → ((more : Tokens) → reads g [] (begun g) (before ++ more) ≡ reads g k s more) → Stops g k s rest → NoneGoesOn g before rest
@@ -232,7 +240,7 @@ refused g ts rest h =
       before = r.0;
       whole = r.1;
       so_far = record { tree = e.1; more = e.0; spelled = subst (λ o. IsSpelledBy g o (r.0 ++ e.0)) read (sound g (r.0 ++ e.0)) };
-      no_further = no_further g r.2 r.3 r.0 rest r.4 r.5
+      no_further = no_further g r.2 r.3 r.0 rest r.4 r.5;
     }
 
 pub accepted : (g : Goal) (ts : Tokens) (t : Tree g) → reads g [] (begun g) ts ≡ Ok t → IsTextOf g t ts

@@ -102,9 +102,11 @@ implies_prints f g x y p q rest left ts edge d =
 not_prints : {e : Names} (f : Formula) (x : List ℕ) → PrintsFormula e Part f x → PrintsFormula e Full (Negation f) (codes "not " ++ x)
 unfolding kind_of keyword_of
 not_prints f x p rest left ts edge d =
-    let q = p rest left ts edge d in
-    (mark.Not ∷ q.0, cut_keyword keyword.Not 110 (111 ∷ 116 ∷ []) (32 ∷ (x ++ rest)) refl (tt, (tt, tt)) refl refl (cut_space q.1),
-        spells.disj (spells.conj (spells.neg (spells.negation (spells.part q.2)))))
+    let q = p rest left ts edge d in (
+      mark.Not ∷ q.0,
+      cut_keyword keyword.Not 110 (111 ∷ 116 ∷ []) (32 ∷ (x ++ rest)) refl (tt, (tt, tt)) refl refl (cut_space q.1),
+      spells.disj (spells.conj (spells.neg (spells.negation (spells.part q.2)))),
+    )
 
 true_prints : {e : Names} → PrintsFormula e Part True (codes "true")
 unfolding kind_of keyword_of
@@ -119,7 +121,7 @@ unfolding kind_of
 le_prints s t x y p q rest left ts edge d =
     let v = q rest left ts edge d in
     let u = p (32 ∷ 60 ∷ 61 ∷ 32 ∷ (y ++ rest)) left (mark.Relation rel.LessEqual ∷ v.0) refl
-        (cut_space (cut_token (60 ∷ 61 ∷ 32 ∷ (y ++ rest)) (32 ∷ (y ++ rest)) (mark.Relation rel.LessEqual) refl (cut_space v.1))) in
+    (cut_space (cut_token (60 ∷ 61 ∷ 32 ∷ (y ++ rest)) (32 ∷ (y ++ rest)) (mark.Relation rel.LessEqual) refl (cut_space v.1))) in
     (u.0, recut _ _ (regroup x (codes " <= ") y rest) u.1, spells.relation rel.LessEqual u.2 v.2)
 
 eq_prints : {e : Names} (s t : Term) (x y : List ℕ) → PrintsTerm e Whole s x → PrintsTerm e Whole t y → PrintsFormula e Part (Eq s t) (x ++ codes " = " ++ y)
@@ -127,17 +129,18 @@ unfolding kind_of
 eq_prints s t x y p q rest left ts edge d =
     let v = q rest left ts edge d in
     let u = p (32 ∷ 61 ∷ 32 ∷ (y ++ rest)) left (mark.Relation rel.Equal ∷ v.0) refl
-        (cut_space (cut_token (61 ∷ 32 ∷ (y ++ rest)) (32 ∷ (y ++ rest)) (mark.Relation rel.Equal) refl (cut_space v.1))) in
+    (cut_space (cut_token (61 ∷ 32 ∷ (y ++ rest)) (32 ∷ (y ++ rest)) (mark.Relation rel.Equal) refl (cut_space v.1))) in
     (u.0, recut _ _ (regroup x (codes " = ") y rest) u.1, spells.relation rel.Equal u.2 v.2)
 
 all_prints : {e : Names} (n : ℕ) (f : Formula) (x : List ℕ) → n < 2 ^ 64 → PrintsFormula (decimal n ∷ e) Full f x → PrintsFormula e Part (Every f) (codes "all _" ++ decimal n ++ codes " { " ++ x ++ codes " }")
 unfolding kind_of keyword_of
 all_prints n f x h p rest left ts edge d =
     let b = body_prints f x p rest left ts d in
-    let e : (codes "all _" ++ decimal n ++ codes " { " ++ x ++ codes " }") ++ rest ≡ 97 ∷ 108 ∷ 108 ∷ 32 ∷ 95 ∷ (decimal n ++ 32 ∷ 123 ∷ 32 ∷ ((x ++ 32 ∷ 125 ∷ []) ++ rest)) = simp append_assoc in
-    (mark.All ∷ mark.Bound (decimal n) ∷ mark.OpenBrace ∷ b.0,
-        recut _ _ e (cut_keyword keyword.All 97 (108 ∷ 108 ∷ []) (32 ∷ 95 ∷ (decimal n ++ 32 ∷ 123 ∷ 32 ∷ ((x ++ 32 ∷ 125 ∷ []) ++ rest))) refl (tt, (tt, tt)) refl refl (cut_space (cut_bound n _ h refl b.1))),
-        spells.all (decimal n) b.2)
+    let e : (codes "all _" ++ decimal n ++ codes " { " ++ x ++ codes " }") ++ rest ≡ 97 ∷ 108 ∷ 108 ∷ 32 ∷ 95 ∷ (decimal n ++ 32 ∷ 123 ∷ 32 ∷ ((x ++ 32 ∷ 125 ∷ []) ++ rest)) = simp append_assoc in (
+      mark.All ∷ mark.Bound (decimal n) ∷ mark.OpenBrace ∷ b.0,
+      recut _ _ e (cut_keyword keyword.All 97 (108 ∷ 108 ∷ []) (32 ∷ 95 ∷ (decimal n ++ 32 ∷ 123 ∷ 32 ∷ ((x ++ 32 ∷ 125 ∷ []) ++ rest))) refl (tt, (tt, tt)) refl refl (cut_space (cut_bound n _ h refl b.1))),
+      spells.all (decimal n) b.2,
+    )
 
 -- the word of a kind
 kind_cuts : (k : LabelKind) (rest left : List ℕ) (ts : Tokens) → Edge rest → Cut rest ts left → (m : Mark) × (kind_of_mark m ≡ Some k) × Cut (kind_text k ++ rest) (m ∷ ts) left
@@ -164,9 +167,11 @@ label_prints l f x h p rest left ts edge d =
     let n = l.node.0 in
     let w = kind_text l.kind in
     let c = kind_cuts l.kind (32 ∷ (decimal n ++ 32 ∷ 123 ∷ 32 ∷ ((x ++ 32 ∷ 125 ∷ []) ++ rest))) left (mark.Literal n ∷ mark.OpenBrace ∷ b.0) refl (cut_space (cut_literal n _ (omega arith) refl b.1)) in
-    let e : (codes "@" ++ w ++ codes " " ++ decimal n ++ codes " { " ++ x ++ codes " }") ++ rest ≡ 64 ∷ (w ++ 32 ∷ (decimal n ++ 32 ∷ 123 ∷ 32 ∷ ((x ++ 32 ∷ 125 ∷ []) ++ rest))) = simp append_assoc in
-    (mark.At ∷ c.0 ∷ mark.Literal n ∷ mark.OpenBrace ∷ b.0, recut _ _ e (cut_token _ _ mark.At refl c.2),
-        spells.label c.0 n c.1 (ap (λ (t : Bool). if t then Some n else None) (lt_true n (2 ^ 32) h)) b.2)
+    let e : (codes "@" ++ w ++ codes " " ++ decimal n ++ codes " { " ++ x ++ codes " }") ++ rest ≡ 64 ∷ (w ++ 32 ∷ (decimal n ++ 32 ∷ 123 ∷ 32 ∷ ((x ++ 32 ∷ 125 ∷ []) ++ rest))) = simp append_assoc in (
+      mark.At ∷ c.0 ∷ mark.Literal n ∷ mark.OpenBrace ∷ b.0,
+      recut _ _ e (cut_token _ _ mark.At refl c.2),
+      spells.label c.0 n c.1 (ap (λ (t : Bool). if t then Some n else None) (lt_true n (2 ^ 32) h)) b.2,
+    )
 
 abbrev pub PrintsBoth : ℕ → Formula → Type 0
 PrintsBoth d f = PrintsFormula (names_at d) Full f (text_of_formula d f) × (is_braced f ≡ false → PrintsFormula (names_at d) Part f (text_of_formula d f))

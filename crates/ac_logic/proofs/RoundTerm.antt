@@ -108,17 +108,20 @@ number_prints : {e : Names} (z : ℤ) → IsNumberInRange z → PrintsTerm e Fac
 unfolding kind_of
 number_prints (pos n) h rest left ts edge d =
     (mark.Literal n ∷ ts, cut_literal n rest (omega arith) edge d, spells.literal n (ap (λ (t : Bool). if t then Some (pos n) else None) (lt_true n (2 ^ 63) h)))
-number_prints (negsuc n) h rest left ts edge d =
-    (mark.Minus ∷ mark.Literal (suc n) ∷ ts, cut_sign 45 sign.Minus (decimal (suc n) ++ rest) refl (λ k. refl) (cut_literal (suc n) rest (omega arith) edge d),
-        spells.negative (suc n) (ap (λ (t : Bool). if t then Some (negsuc n) else None) (le_true (suc n) (2 ^ 63) (omega arith))))
+number_prints (negsuc n) h rest left ts edge d = (
+  mark.Minus ∷ mark.Literal (suc n) ∷ ts,
+  cut_sign 45 sign.Minus (decimal (suc n) ++ rest) refl (λ k. refl) (cut_literal (suc n) rest (omega arith) edge d),
+  spells.negative (suc n) (ap (λ (t : Bool). if t then Some (negsuc n) else None) (le_true (suc n) (2 ^ 63) (omega arith))),
+)
 
 init_prints : {e : Names} (x : List ℕ) → IsName x → PrintsArray e (Array (Init x)) (codes "init(" ++ x ++ codes ")")
 unfolding kind_of keyword_of
-init_prints x n rest left ts edge d =
-    (mark.Init ∷ mark.OpenParen ∷ mark.Name x ∷ mark.CloseParen ∷ ts,
-        cut_keyword keyword.Init 105 (110 ∷ 105 ∷ 116 ∷ []) (40 ∷ ((x ++ 41 ∷ []) ++ rest)) refl (tt, (tt, (tt, tt))) refl refl
-            (cut_sign 40 sign.OpenParen ((x ++ 41 ∷ []) ++ rest) refl (λ k. refl) (recut _ _ (last_byte x rest 41) (cut_name x (41 ∷ rest) n refl (cut_sign 41 sign.CloseParen rest refl (λ k. refl) d)))),
-        spells.init x)
+init_prints x n rest left ts edge d = (
+  mark.Init ∷ mark.OpenParen ∷ mark.Name x ∷ mark.CloseParen ∷ ts,
+  cut_keyword keyword.Init 105 (110 ∷ 105 ∷ 116 ∷ []) (40 ∷ ((x ++ 41 ∷ []) ++ rest)) refl (tt, (tt, (tt, tt))) refl refl
+      (cut_sign 40 sign.OpenParen ((x ++ 41 ∷ []) ++ rest) refl (λ k. refl) (recut _ _ (last_byte x rest 41) (cut_name x (41 ∷ rest) n refl (cut_sign 41 sign.CloseParen rest refl (λ k. refl) d)))),
+  spells.init x,
+)
 
 value_prints : {e : Names} (x : List ℕ) → IsName x → PrintsArray e (Array (Value x)) x
 value_prints x n rest left ts edge d = (mark.Name x ∷ ts, cut_name x rest n edge d, spells.name x)
@@ -130,9 +133,11 @@ array_symbol_prints (Fresh k) n = absurd n
 
 fresh_prints : {e : Names} (k : ℕ) → k < 2 ^ 32 → PrintsTerm e Atom (Scalar (Fresh k)) (codes "#" ++ decimal k)
 unfolding kind_of
-fresh_prints k h rest left ts edge d =
-    (mark.Hash ∷ mark.Literal k ∷ ts, cut_token (35 ∷ (decimal k ++ rest)) (decimal k ++ rest) mark.Hash refl (cut_literal k rest (omega arith) edge d),
-        spells.fresh k (ap (λ (t : Bool). if t then Some k else None) (lt_true k (2 ^ 32) h)))
+fresh_prints k h rest left ts edge d = (
+  mark.Hash ∷ mark.Literal k ∷ ts,
+  cut_token (35 ∷ (decimal k ++ rest)) (decimal k ++ rest) mark.Hash refl (cut_literal k rest (omega arith) edge d),
+  spells.fresh k (ap (λ (t : Bool). if t then Some k else None) (lt_true k (2 ^ 32) h)),
+)
 
 symbol_prints : {e : Names} (s : Sym) → IsReadableScalar s → IsSymInRange s → PrintsTerm e Atom (Scalar s) (text_of_sym s)
 symbol_prints (Value x) n r rest left ts edge d = let q = value_prints x n rest left ts edge d in (q.0, q.1, spells.symbol q.2)
@@ -181,11 +186,12 @@ put_prints a i j v x y z w p q r s rest left ts edge d =
     let n = argument_prints i y q (44 ∷ 32 ∷ (z ++ 44 ∷ 32 ∷ (w ++ 41 ∷ rest))) left (mark.Comma ∷ m.0) refl m.1 in
     let u = p (44 ∷ 32 ∷ (y ++ 44 ∷ 32 ∷ (z ++ 44 ∷ 32 ∷ (w ++ 41 ∷ rest)))) left (mark.Comma ∷ n.0) refl n.1 in
     let e : (x ++ codes ", " ++ y ++ codes ", " ++ z ++ codes ", " ++ w ++ codes ")") ++ rest ≡ x ++ 44 ∷ 32 ∷ (y ++ 44 ∷ 32 ∷ (z ++ 44 ∷ 32 ∷ (w ++ 41 ∷ rest))) = simp append_assoc in
-    let f : (codes "put(" ++ x ++ codes ", " ++ y ++ codes ", " ++ z ++ codes ", " ++ w ++ codes ")") ++ rest ≡ 112 ∷ 117 ∷ 116 ∷ 40 ∷ (x ++ 44 ∷ 32 ∷ (y ++ 44 ∷ 32 ∷ (z ++ 44 ∷ 32 ∷ (w ++ 41 ∷ rest)))) = simp append_assoc in
-    (mark.Put ∷ mark.OpenParen ∷ u.0,
-        recut _ _ f (cut_keyword keyword.Put 112 (117 ∷ 116 ∷ []) (40 ∷ (x ++ 44 ∷ 32 ∷ (y ++ 44 ∷ 32 ∷ (z ++ 44 ∷ 32 ∷ (w ++ 41 ∷ rest))))) refl (tt, (tt, tt)) refl refl
-            (cut_sign 40 sign.OpenParen (x ++ 44 ∷ 32 ∷ (y ++ 44 ∷ 32 ∷ (z ++ 44 ∷ 32 ∷ (w ++ 41 ∷ rest)))) refl (λ k. refl) u.1)),
-        spells.put u.2 n.2 m.2 l.2)
+    let f : (codes "put(" ++ x ++ codes ", " ++ y ++ codes ", " ++ z ++ codes ", " ++ w ++ codes ")") ++ rest ≡ 112 ∷ 117 ∷ 116 ∷ 40 ∷ (x ++ 44 ∷ 32 ∷ (y ++ 44 ∷ 32 ∷ (z ++ 44 ∷ 32 ∷ (w ++ 41 ∷ rest)))) = simp append_assoc in (
+      mark.Put ∷ mark.OpenParen ∷ u.0,
+      recut _ _ f (cut_keyword keyword.Put 112 (117 ∷ 116 ∷ []) (40 ∷ (x ++ 44 ∷ 32 ∷ (y ++ 44 ∷ 32 ∷ (z ++ 44 ∷ 32 ∷ (w ++ 41 ∷ rest))))) refl (tt, (tt, tt)) refl refl
+          (cut_sign 40 sign.OpenParen (x ++ 44 ∷ 32 ∷ (y ++ 44 ∷ 32 ∷ (z ++ 44 ∷ 32 ∷ (w ++ 41 ∷ rest)))) refl (λ k. refl) u.1)),
+      spells.put u.2 n.2 m.2 l.2,
+    )
 
 -- the names that printing gives to the enclosing `all`
 abbrev pub names_at : ℕ → Names
@@ -247,13 +253,14 @@ both_of d t p = (whole_of (text_of_term d t) p, λ g. p)
 
 mutual
   unfolding hidden term_shape term_child array_shape array_child
+
   pub term_prints : (d : ℕ) (t : Term) → d ≤ 2 ^ 64 → IsTermClosedIn d t → HasGoodNamesInTerm t → IsTermInRange t → PrintsBoth d t
   term_prints d (Num n) s c g r = both_of d (Num n) (number_prints n r)
   term_prints d (Scalar x) s c g r = both_of d (Scalar x) (atom_of (text_of_sym x) (symbol_prints x g r))
   term_prints d (Bound k) s c g r = both_of d (Bound k) (atom_of (text_of_term d (Bound k)) (bound_prints k (d - 1 - k) (omega arith) (place_at d k c s)))
   term_prints d (ReadOf a i j) s c g r =
       both_of d (ReadOf a i j) (atom_of (text_of_term d (ReadOf a i j)) (read_prints a i j (text_of_array d a) (text_of_term d i) (text_of_term d j) (is_zero j) refl
-          (array_prints d a s c.0 g.0 r.0) (term_prints d i s c.1 g.1 r.1).0 (term_prints d j s c.2 g.2 r.2).0))
+      (array_prints d a s c.0 g.0 r.0) (term_prints d i s c.1 g.1 r.1).0 (term_prints d j s c.2 g.2 r.2).0))
   term_prints d (Sum a b) s c g r =
       (sum_prints a b _ _ (operand_of d a (term_prints d a s c.0 g.0 r.0)) (operand_of d b (term_prints d b s c.1 g.1 r.1)), λ h. cc)
   term_prints d (Difference a b) s c g r =

@@ -26,7 +26,6 @@ use Rattle.ac_logic.specs.FormulaText as text
 use Rattle.ac_logic.specs.FormulaText.{Tokens, Names, place_of, number_of, short_of, kind_of, related, TermLevel, Whole, Prod, Fac, Atom, SpellsTerm, SpellsArray, FormulaLevel, Full, Disj, Conj, Neg, Part, SpellsFormula, Goal, Terms, Formulas, Tree, IsTextOf}
 use Rattle.ac_logic.specs.FormulaMachine.{Stack, Machine, if_some, names_of, signed, multiplied, added, pending, fresh, atom_read, number_read, denied, joined, either, before, unbound, part_read, closed, following, in_index, at_paren, at_bracket, at_comma, at_relation, having, term_ends, wanting, at_minus, array_begins, fresh_read, at_open_paren, at_open_brace, init_named, put_begins, put_named, symbol_ends, array_named, array_read, part_begins, all_named, node_named, stepped, term_so_far, ended_term, implied, relation_ended, ended_formula, ended, begun, whole, reads}
 
-
 -- what has been read, by each part of the machine: from the tokens ts, with rest behind
 abbrev pub InSum : Names → Adding → Tokens → Tokens → Type 0
 InSum e adding.Nothing ts rest = ts ≡ rest
@@ -392,9 +391,10 @@ end_has Formulas k s ts h = formula_ended k s ts h
 reads_has : (g : Goal) (rest : Tokens) (k : Stack) (s : State) (ts : Tokens) → Has g k s ts rest → IsSpelledBy g (reads g k s rest) ts
 reads_has g [] k s ts h = end_has g k s ts h
 reads_has g (m ∷ rest) k s ts h =
-    (elim (stepped k s m) as (λ (o : Option Machine). After g o ts rest → IsSpelledBy g (elim o [ None ↦ Err (m ∷ rest) | Some n ↦ reads g n.0 n.1 rest ]) ts)
-      [ None ↦ λ i. tt
-      | Some n ↦ λ i. reads_has g rest n.0 n.1 ts i ])
+    (elim (stepped k s m) as (λ (o : Option Machine). After g o ts rest → IsSpelledBy g (elim o [ None ↦ Err (m ∷ rest) | Some n ↦ reads g n.0 n.1 rest ]) ts) [
+      | None ↦ λ i. tt
+      | Some n ↦ λ i. reads_has g rest n.0 n.1 ts i
+    ])
     (step_has g k s m ts rest h)
 
 pub begun_has : (g : Goal) (ts : Tokens) → Has g [] (begun g) ts ts

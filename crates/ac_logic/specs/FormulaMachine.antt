@@ -292,4 +292,3 @@ pub data Reached : Type 0 where
 abbrev pub runs : Stack → State → Tokens → Reached
 runs k s [] = Through k s
 runs k s (m ∷ ms) = elim (stepped k s m) [ None ↦ Stuck (m ∷ ms) | Some n ↦ runs n.0 n.1 ms ]
-

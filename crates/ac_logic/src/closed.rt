@@ -47,7 +47,10 @@ fn term_reach(term: &Term) -> u64
         Term::Num(_) => 0,
         Term::Sym(_) => 0,
         Term::Bound(k) => u64::from(*k) + 1,
-        Term::Read(a, i, j) => farther(farther(array_reach(a.get()), term_reach(i.get())), term_reach(j.get())),
+        Term::Read(a, i, j) => farther(
+            farther(array_reach(a.get()), term_reach(i.get())),
+            term_reach(j.get()),
+        ),
         Term::Add(s, t) => farther(term_reach(s.get()), term_reach(t.get())),
         Term::Sub(s, t) => farther(term_reach(s.get()), term_reach(t.get())),
         Term::Mul(s, t) => farther(term_reach(s.get()), term_reach(t.get())),
@@ -62,7 +65,10 @@ fn array_reach(array: &ArrayTerm) -> u64
     match array {
         ArrayTerm::Sym(_) => 0,
         ArrayTerm::Put(a, i, j, v) => {
-            let indexes = farther(farther(array_reach(a.get()), term_reach(i.get())), term_reach(j.get()));
+            let indexes = farther(
+                farther(array_reach(a.get()), term_reach(i.get())),
+                term_reach(j.get()),
+            );
             farther(indexes, term_reach(v.get()))
         }
     }

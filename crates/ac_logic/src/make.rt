@@ -35,7 +35,12 @@ fn product(alloc: Global, left: Term, right: Term) -> Result<Term, AllocError>
     Ok(Term::Mul(left, right))
 }
 
-pub(crate) fn read(alloc: Global, array: ArrayTerm, first: Term, second: Term) -> Result<Term, AllocError>
+pub(crate) fn read(
+    alloc: Global,
+    array: ArrayTerm,
+    first: Term,
+    second: Term,
+) -> Result<Term, AllocError>
     ensures { IfOk result (λ t. t ≡ ReadOf array first second) }
 {
     let array = Shared::new(alloc, array)?;
@@ -44,7 +49,13 @@ pub(crate) fn read(alloc: Global, array: ArrayTerm, first: Term, second: Term) -
     Ok(Term::Read(array, first, second))
 }
 
-pub(crate) fn put(alloc: Global, array: ArrayTerm, first: Term, second: Term, value: Term) -> Result<ArrayTerm, AllocError>
+pub(crate) fn put(
+    alloc: Global,
+    array: ArrayTerm,
+    first: Term,
+    second: Term,
+    value: Term,
+) -> Result<ArrayTerm, AllocError>
     ensures { IfOk result (λ t. t ≡ PutOf array first second value) }
 {
     let array = Shared::new(alloc, array)?;
@@ -125,7 +136,11 @@ pub(crate) fn number_of(minus: bool, literal: u64) -> Option<i64>
     ensures { result ≡ number_of_literal minus literal }
 {
     if !minus {
-        return if literal < 9223372036854775808 { Some(literal as i64) } else { None };
+        return if literal < 9223372036854775808 {
+            Some(literal as i64)
+        } else {
+            None
+        };
     }
     if literal == 0 {
         return Some(0);
@@ -159,7 +174,12 @@ fn comparison(alloc: Global, left: Term, right: Term) -> Result<Formula, AllocEr
     Ok(Formula::Le(left, right))
 }
 
-pub(crate) fn related(alloc: Global, relation: Relation, left: Term, right: Term) -> Result<Formula, AllocError>
+pub(crate) fn related(
+    alloc: Global,
+    relation: Relation,
+    left: Term,
+    right: Term,
+) -> Result<Formula, AllocError>
     ensures { IfOk result (λ f. f ≡ related_formula relation left right) }
 {
     match relation {
@@ -197,7 +217,11 @@ fn disjunction(alloc: Global, left: Formula, right: Formula) -> Result<Formula, 
     Ok(Formula::Or(left, right))
 }
 
-pub(crate) fn implication(alloc: Global, left: Formula, right: Formula) -> Result<Formula, AllocError>
+pub(crate) fn implication(
+    alloc: Global,
+    left: Formula,
+    right: Formula,
+) -> Result<Formula, AllocError>
     ensures { IfOk result (λ f. f ≡ Implication left right) }
 {
     let left = Shared::new(alloc, left)?;
@@ -216,7 +240,11 @@ pub(crate) fn denied(alloc: Global, nots: u64, formula: Formula) -> Result<Formu
     Ok(inner)
 }
 
-pub(crate) fn joined(alloc: Global, left: Option<Formula>, formula: Formula) -> Result<Formula, AllocError>
+pub(crate) fn joined(
+    alloc: Global,
+    left: Option<Formula>,
+    formula: Formula,
+) -> Result<Formula, AllocError>
     ensures { IfOk result (λ f. f ≡ joined_formula left formula) }
 {
     match left {
@@ -225,7 +253,11 @@ pub(crate) fn joined(alloc: Global, left: Option<Formula>, formula: Formula) -> 
     }
 }
 
-pub(crate) fn either(alloc: Global, left: Option<Formula>, formula: Formula) -> Result<Formula, AllocError>
+pub(crate) fn either(
+    alloc: Global,
+    left: Option<Formula>,
+    formula: Formula,
+) -> Result<Formula, AllocError>
     ensures { IfOk result (λ f. f ≡ either_formula left formula) }
 {
     match left {

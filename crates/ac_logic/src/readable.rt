@@ -49,7 +49,9 @@ fn has_good_names_in_term(term: &Term) -> bool
         Term::Sym(s) => is_readable_scalar(s),
         Term::Bound(_) => true,
         Term::Read(a, i, j) => {
-            has_good_names_in_array(a.get()) && has_good_names_in_term(i.get()) && has_good_names_in_term(j.get())
+            has_good_names_in_array(a.get())
+                && has_good_names_in_term(i.get())
+                && has_good_names_in_term(j.get())
         }
         Term::Add(s, t) => has_good_names_in_term(s.get()) && has_good_names_in_term(t.get()),
         Term::Sub(s, t) => has_good_names_in_term(s.get()) && has_good_names_in_term(t.get()),

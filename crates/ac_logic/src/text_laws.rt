@@ -12,11 +12,9 @@ ghost use Rattle.ac_logic.specs.Readable.{IsReadable, IsReadableTerm};
 pub fn print_reads_back_law()
     ensures formula { (f : LogicFormula) → IsReadable f → IsInRange 0 f → IsText Formulas f (text_of_formula 0 f) }
     ensures term { (t : LogicTerm) → IsReadableTerm t → IsTermInRange t → IsText Terms t (text_of_term 0 t) }
-{
-}
+{}
 
 /// A text is of one formula, or one term, at most.
 pub fn one_tree_law()
     ensures { (g : Goal) (bytes : List ℕ) (s t : Tree g) → IsText g s bytes → IsText g t bytes → s ≡ t }
-{
-}
+{}
