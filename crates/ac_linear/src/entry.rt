@@ -1,7 +1,8 @@
 //! The working form: parts with their units' prints, so that each unit is printed once.
+ghost use Rattle.std.specs.Prelude.{◌≡◌};
+
 use ac_logic::Term;
 use ac_shared::Shared;
-use sqlite_items::Items;
 use std::marker::Model;
 
 /// The print of a unit, which contracts see as its bytes.
@@ -21,6 +22,14 @@ impl Model for Print {
     ghost view = { λ p. string_bytes p.text };
 }
 
+impl Print {
+    pub fn text(&self) -> &str
+        ensures { result.now ≡ self.now }
+    {
+        self.text.as_str()
+    }
+}
+
 /// A part with the print of its unit.
 #[derive(Debug, Drop)]
 pub struct Entry {
@@ -29,18 +38,26 @@ pub struct Entry {
     pub factor: i128,
 }
 
-/// A form on the way.
+/// A `Vec` that contracts see as the list of its elements.
+#[derive(Debug, Drop)]
+pub struct Entries<T> {
+    pub items: Vec<T>,
+}
+
+impl<T> Model for Entries<T> {
+    ghost use Rattle.std.specs.Prelude.{List};
+    ghost use Rattle.std.specs.Coded.{coded_list};
+
+    ghost Value = { List T };
+
+    ghost coded = { coded_list T.code };
+
+    ghost view = { λ e. e.items.items };
+}
+
+/// A form on the way, its entries in the order of their prints.
 #[derive(Debug, Drop)]
 pub struct Form {
     pub constant: i128,
-    pub entries: Items<Entry>,
-}
-
-/// Which range a number on the way must not leave.
-#[derive(Clone, Copy, Debug)]
-pub enum Range {
-    /// -2^62 to 2^62.
-    Coefficient,
-    /// Those of 128 bits.
-    Machine,
+    pub entries: Entries<Entry>,
 }

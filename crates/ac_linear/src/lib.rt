@@ -4,9 +4,18 @@
 //! is not linear. Under every valuation it has the number of the term that it comes from.
 #![tactic(auto, unfolding(crate::specs::Opened::term_shape, crate::specs::Opened::term_child, crate::specs::Opened::array_shape, crate::specs::Opened::array_child, crate::specs::Opened::hidden))]
 
+#[allow(dead_code)]
 mod entry;
 mod fault;
+#[allow(dead_code)]
+mod form;
+mod laws;
 mod linear;
+#[allow(dead_code)]
+mod place;
+#[allow(dead_code)]
+mod range;
 
 pub use fault::LinFault;
+pub use laws::{combination_law, normal_law};
 pub use linear::{Linear, Part};

@@ -1,4 +1,4 @@
--- What the code keeps of faults: the first, and the loops around a statement.
+-- What the code keeps of faults: the first, and the loops around a statement. No promise rests on this file.
 use Rattle.std.specs.Prelude.{Option, Some, None, Result, Ok, Err, List, [], ◌∷◌}
 use Rattle.ac_tree.specs.declared.static_rules.StaticFault.{StaticFault}
 use Rattle.ac_tree.specs.declared.static_rules.Loops.{Loops}
