@@ -2,12 +2,13 @@
 use Rattle.std.proofs.Common.{◌≡◌, List, ℕ, [], ◌++◌, Bool, true, false, append_assoc, refl, sym, ◌∙◌, ap, codes}
 use Rattle.ac_logic.specs.declared.formula.Term.{Term}
 use Rattle.ac_logic.specs.declared.formula.ArrayTerm.{ArrayTerm}
-use Rattle.ac_logic.specs.Patterns.{PutOf, ReadOf, Sum, Difference, Product}
-use Rattle.ac_logic.specs.Printing.{text_of_term, text_of_array, in_parens, when, is_grouped, is_zero, second_index}
-use Rattle.ac_logic.specs.Opened.{hidden, term_shape, term_child, array_shape, array_child}
+use Rattle.ac_logic.specs.declared.formula.Formula.{Formula}
+use Rattle.ac_logic.specs.Patterns.{PutOf, ReadOf, Sum, Difference, Product, Conjunction, Disjunction, Implication}
+use Rattle.ac_logic.specs.Printing.{text_of_term, text_of_array, in_parens, when, is_grouped, is_zero, second_index, is_braced, in_braces, text_of_formula}
+use Rattle.ac_logic.specs.Opened.{hidden, formula_shape, formula_child, term_shape, term_child, array_shape, array_child}
 
 -- an operand, a sign between, an operand
-pub infix_text : (o s1 s2 s3 s4 s5 p x q y r sign u v : List ℕ) → s1 ≡ o ++ p → s2 ≡ s1 ++ x → s3 ≡ s2 ++ (q ++ sign ++ u) → s4 ≡ s3 ++ y → s5 ≡ s4 ++ v →
+pub infix_text : (o s1 s2 s3 s4 s5 p x q y r sign u v : List ℕ) → s1 ≡ o ++ p → s2 ≡ s1 ++ x → s3 ≡ s2 ++ q ++ sign ++ u → s4 ≡ s3 ++ y → s5 ≡ s4 ++ v →
     s5 ≡ o ++ ((p ++ x ++ q) ++ sign ++ (u ++ y ++ v))
 infix_text o s1 s2 s3 s4 s5 p x q y r sign u v a b c d e = rw (e, d, c, b, a) (simp append_assoc)
 
@@ -48,7 +49,7 @@ put_text d t a b i j v x y z o s1 s2 s3 s4 s5 s6 s7 s8 s9 is l m n p e f g h k q
 
 operands_text : (d : ℕ) (t a b x y : Term) (sign o s1 s2 s3 s4 s5 : List ℕ) →
     text_of_term d t ≡ in_parens (is_grouped a) (text_of_term d a) ++ sign ++ in_parens (is_grouped b) (text_of_term d b) → x ≡ a → y ≡ b →
-    s1 ≡ o ++ when (is_grouped x) (codes "(") → s2 ≡ s1 ++ text_of_term d x → s3 ≡ s2 ++ (when (is_grouped x) (codes ")") ++ sign ++ when (is_grouped y) (codes "(")) →
+    s1 ≡ o ++ when (is_grouped x) (codes "(") → s2 ≡ s1 ++ text_of_term d x → s3 ≡ s2 ++ when (is_grouped x) (codes ")") ++ sign ++ when (is_grouped y) (codes "(") →
     s4 ≡ s3 ++ text_of_term d y → s5 ≡ s4 ++ when (is_grouped y) (codes ")") → s5 ≡ o ++ text_of_term d t
 operands_text d t a b x y sign o s1 s2 s3 s4 s5 is l m e f g h k =
     infix_text o s1 s2 s3 s4 s5 (when (is_grouped x) (codes "(")) (text_of_term d x) (when (is_grouped x) (codes ")")) (text_of_term d y) [] sign (when (is_grouped y) (codes "(")) (when (is_grouped y) (codes ")")) e f g h k
@@ -56,17 +57,17 @@ operands_text d t a b x y sign o s1 s2 s3 s4 s5 is l m e f g h k =
     ∙ (ap (λ z. o ++ (in_parens (is_grouped a) (text_of_term d a) ++ sign ++ in_parens (is_grouped z) (text_of_term d z))) m ∙ ap (λ c. o ++ c) (sym is)))
 
 pub sum_text : (d : ℕ) (t a b x y : Term) (o s1 s2 s3 s4 s5 : List ℕ) → t ≡ Sum a b → x ≡ a → y ≡ b →
-    s1 ≡ o ++ when (is_grouped x) (codes "(") → s2 ≡ s1 ++ text_of_term d x → s3 ≡ s2 ++ (when (is_grouped x) (codes ")") ++ codes " + " ++ when (is_grouped y) (codes "(")) →
+    s1 ≡ o ++ when (is_grouped x) (codes "(") → s2 ≡ s1 ++ text_of_term d x → s3 ≡ s2 ++ when (is_grouped x) (codes ")") ++ codes " + " ++ when (is_grouped y) (codes "(") →
     s4 ≡ s3 ++ text_of_term d y → s5 ≡ s4 ++ when (is_grouped y) (codes ")") → s5 ≡ o ++ text_of_term d t
 sum_text d t a b x y o s1 s2 s3 s4 s5 is = operands_text d t a b x y (codes " + ") o s1 s2 s3 s4 s5 (ap (text_of_term d) is ∙ sum_is d a b)
 
 pub difference_text : (d : ℕ) (t a b x y : Term) (o s1 s2 s3 s4 s5 : List ℕ) → t ≡ Difference a b → x ≡ a → y ≡ b →
-    s1 ≡ o ++ when (is_grouped x) (codes "(") → s2 ≡ s1 ++ text_of_term d x → s3 ≡ s2 ++ (when (is_grouped x) (codes ")") ++ codes " - " ++ when (is_grouped y) (codes "(")) →
+    s1 ≡ o ++ when (is_grouped x) (codes "(") → s2 ≡ s1 ++ text_of_term d x → s3 ≡ s2 ++ when (is_grouped x) (codes ")") ++ codes " - " ++ when (is_grouped y) (codes "(") →
     s4 ≡ s3 ++ text_of_term d y → s5 ≡ s4 ++ when (is_grouped y) (codes ")") → s5 ≡ o ++ text_of_term d t
 difference_text d t a b x y o s1 s2 s3 s4 s5 is = operands_text d t a b x y (codes " - ") o s1 s2 s3 s4 s5 (ap (text_of_term d) is ∙ difference_is d a b)
 
 pub product_text : (d : ℕ) (t a b x y : Term) (o s1 s2 s3 s4 s5 : List ℕ) → t ≡ Product a b → x ≡ a → y ≡ b →
-    s1 ≡ o ++ when (is_grouped x) (codes "(") → s2 ≡ s1 ++ text_of_term d x → s3 ≡ s2 ++ (when (is_grouped x) (codes ")") ++ codes " * " ++ when (is_grouped y) (codes "(")) →
+    s1 ≡ o ++ when (is_grouped x) (codes "(") → s2 ≡ s1 ++ text_of_term d x → s3 ≡ s2 ++ when (is_grouped x) (codes ")") ++ codes " * " ++ when (is_grouped y) (codes "(") →
     s4 ≡ s3 ++ text_of_term d y → s5 ≡ s4 ++ when (is_grouped y) (codes ")") → s5 ≡ o ++ text_of_term d t
 product_text d t a b x y o s1 s2 s3 s4 s5 is = operands_text d t a b x y (codes " * ") o s1 s2 s3 s4 s5 (ap (text_of_term d) is ∙ product_is d a b)
 
@@ -83,3 +84,39 @@ vector_text d t a b i j x y o s1 s2 s3 s6 is l m n z e f g q =
     let zero_ : is_zero j ≡ true = sym (ap is_zero n) ∙ z in
     let p : s6 ≡ o ++ (text_of_array d a ++ codes "[" ++ text_of_term d i ++ [] ++ codes "]") = rw (q, g, f, e, l, m) (simp append_assoc) in
     p ∙ (sym (ap (λ z. o ++ (text_of_array d a ++ codes "[" ++ text_of_term d i ++ second_index z (text_of_term d j) ++ codes "]")) zero_) ∙ ap (λ c. o ++ c) (sym (ap (text_of_term d) is ∙ read_is d a i j)))
+
+parts_text : (d : ℕ) (t a b x y : Formula) (sign o s1 s2 s3 s4 s5 : List ℕ) →
+    text_of_formula d t ≡ in_braces (is_braced a) (text_of_formula d a) ++ sign ++ in_braces (is_braced b) (text_of_formula d b) → x ≡ a → y ≡ b →
+    s1 ≡ o ++ when (is_braced x) (codes "{ ") → s2 ≡ s1 ++ text_of_formula d x → s3 ≡ s2 ++ when (is_braced x) (codes " }") ++ sign ++ when (is_braced y) (codes "{ ") →
+    s4 ≡ s3 ++ text_of_formula d y → s5 ≡ s4 ++ when (is_braced y) (codes " }") → s5 ≡ o ++ text_of_formula d t
+parts_text d t a b x y sign o s1 s2 s3 s4 s5 is l m e f g h k =
+    infix_text o s1 s2 s3 s4 s5 (when (is_braced x) (codes "{ ")) (text_of_formula d x) (when (is_braced x) (codes " }")) (text_of_formula d y) [] sign (when (is_braced y) (codes "{ ")) (when (is_braced y) (codes " }")) e f g h k
+    ∙ (ap (λ z. o ++ (in_braces (is_braced z) (text_of_formula d z) ++ sign ++ in_braces (is_braced y) (text_of_formula d y))) l
+    ∙ (ap (λ z. o ++ (in_braces (is_braced a) (text_of_formula d a) ++ sign ++ in_braces (is_braced z) (text_of_formula d z))) m ∙ ap (λ c. o ++ c) (sym is)))
+
+conjunction_is : (d : ℕ) (s t : Formula) → text_of_formula d (Conjunction s t) ≡ in_braces (is_braced s) (text_of_formula d s) ++ codes " and " ++ in_braces (is_braced t) (text_of_formula d t)
+unfolding hidden formula_shape formula_child
+conjunction_is d s t = refl
+
+pub conjunction_text : (d : ℕ) (t a b x y : Formula) (o s1 s2 s3 s4 s5 : List ℕ) → t ≡ Conjunction a b → x ≡ a → y ≡ b →
+    s1 ≡ o ++ when (is_braced x) (codes "{ ") → s2 ≡ s1 ++ text_of_formula d x → s3 ≡ s2 ++ when (is_braced x) (codes " }") ++ codes " and " ++ when (is_braced y) (codes "{ ") →
+    s4 ≡ s3 ++ text_of_formula d y → s5 ≡ s4 ++ when (is_braced y) (codes " }") → s5 ≡ o ++ text_of_formula d t
+conjunction_text d t a b x y o s1 s2 s3 s4 s5 is = parts_text d t a b x y (codes " and ") o s1 s2 s3 s4 s5 (ap (text_of_formula d) is ∙ conjunction_is d a b)
+
+disjunction_is : (d : ℕ) (s t : Formula) → text_of_formula d (Disjunction s t) ≡ in_braces (is_braced s) (text_of_formula d s) ++ codes " or " ++ in_braces (is_braced t) (text_of_formula d t)
+unfolding hidden formula_shape formula_child
+disjunction_is d s t = refl
+
+pub disjunction_text : (d : ℕ) (t a b x y : Formula) (o s1 s2 s3 s4 s5 : List ℕ) → t ≡ Disjunction a b → x ≡ a → y ≡ b →
+    s1 ≡ o ++ when (is_braced x) (codes "{ ") → s2 ≡ s1 ++ text_of_formula d x → s3 ≡ s2 ++ when (is_braced x) (codes " }") ++ codes " or " ++ when (is_braced y) (codes "{ ") →
+    s4 ≡ s3 ++ text_of_formula d y → s5 ≡ s4 ++ when (is_braced y) (codes " }") → s5 ≡ o ++ text_of_formula d t
+disjunction_text d t a b x y o s1 s2 s3 s4 s5 is = parts_text d t a b x y (codes " or ") o s1 s2 s3 s4 s5 (ap (text_of_formula d) is ∙ disjunction_is d a b)
+
+implication_is : (d : ℕ) (s t : Formula) → text_of_formula d (Implication s t) ≡ in_braces (is_braced s) (text_of_formula d s) ++ codes " implies " ++ in_braces (is_braced t) (text_of_formula d t)
+unfolding hidden formula_shape formula_child
+implication_is d s t = refl
+
+pub implication_text : (d : ℕ) (t a b x y : Formula) (o s1 s2 s3 s4 s5 : List ℕ) → t ≡ Implication a b → x ≡ a → y ≡ b →
+    s1 ≡ o ++ when (is_braced x) (codes "{ ") → s2 ≡ s1 ++ text_of_formula d x → s3 ≡ s2 ++ when (is_braced x) (codes " }") ++ codes " implies " ++ when (is_braced y) (codes "{ ") →
+    s4 ≡ s3 ++ text_of_formula d y → s5 ≡ s4 ++ when (is_braced y) (codes " }") → s5 ≡ o ++ text_of_formula d t
+implication_text d t a b x y o s1 s2 s3 s4 s5 is = parts_text d t a b x y (codes " implies ") o s1 s2 s3 s4 s5 (ap (text_of_formula d) is ∙ implication_is d a b)

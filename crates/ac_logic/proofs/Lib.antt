@@ -7,7 +7,6 @@ pub mod Stable
 pub mod Environment
 pub mod Changes
 pub mod Openings
-mod Denied
 pub mod Puts
 pub mod Substituted
 pub mod Saturation

@@ -9,7 +9,6 @@ mod formula;
 mod label;
 mod laws;
 mod listing;
-mod make;
 mod mark;
 mod measure;
 mod opening;

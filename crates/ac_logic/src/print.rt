@@ -24,17 +24,27 @@ fn close_operand(out: &mut String, formula: &Formula) -> Result<(), AllocError>
     Ok(())
 }
 
-/// Writes a connective between two operands.
-fn write_sign(
-    out: &mut String,
-    left: &Formula,
-    sign: &str,
-    right: &Formula,
-) -> Result<(), AllocError>
-    ensures { OnOk result (string_bytes out.new ≡ string_bytes out.old ++ when (braced_formula left.now) (codes " }") ++ sign.now ++ when (braced_formula right.now) (codes "{ ")) }
+fn write_and(out: &mut String, left: &Formula, right: &Formula) -> Result<(), AllocError>
+    ensures { OnOk result (string_bytes out.new ≡ string_bytes out.old ++ when (braced_formula left.now) (codes " }") ++ codes " and " ++ when (braced_formula right.now) (codes "{ ")) }
 {
     close_operand(out, left)?;
-    out.push_str(sign)?;
+    out.push_str(" and ")?;
+    open_operand(out, right)
+}
+
+fn write_or(out: &mut String, left: &Formula, right: &Formula) -> Result<(), AllocError>
+    ensures { OnOk result (string_bytes out.new ≡ string_bytes out.old ++ when (braced_formula left.now) (codes " }") ++ codes " or " ++ when (braced_formula right.now) (codes "{ ")) }
+{
+    close_operand(out, left)?;
+    out.push_str(" or ")?;
+    open_operand(out, right)
+}
+
+fn write_implies(out: &mut String, left: &Formula, right: &Formula) -> Result<(), AllocError>
+    ensures { OnOk result (string_bytes out.new ≡ string_bytes out.old ++ when (braced_formula left.now) (codes " }") ++ codes " implies " ++ when (braced_formula right.now) (codes "{ ")) }
+{
+    close_operand(out, left)?;
+    out.push_str(" implies ")?;
     open_operand(out, right)
 }
 
@@ -93,7 +103,7 @@ fn write_formula(out: &mut String, depth: u64, formula: &Formula) -> Result<(), 
             let (left, right) = (left.get(), right.get());
             open_operand(out, left)?;
             write_formula(out, depth, left)?;
-            write_sign(out, left, " and ", right)?;
+            write_and(out, left, right)?;
             write_formula(out, depth, right)?;
             close_operand(out, right)?;
             Ok(())
@@ -102,7 +112,7 @@ fn write_formula(out: &mut String, depth: u64, formula: &Formula) -> Result<(), 
             let (left, right) = (left.get(), right.get());
             open_operand(out, left)?;
             write_formula(out, depth, left)?;
-            write_sign(out, left, " or ", right)?;
+            write_or(out, left, right)?;
             write_formula(out, depth, right)?;
             close_operand(out, right)?;
             Ok(())
@@ -111,7 +121,7 @@ fn write_formula(out: &mut String, depth: u64, formula: &Formula) -> Result<(), 
             let (left, right) = (left.get(), right.get());
             open_operand(out, left)?;
             write_formula(out, depth, left)?;
-            write_sign(out, left, " implies ", right)?;
+            write_implies(out, left, right)?;
             write_formula(out, depth, right)?;
             close_operand(out, right)?;
             Ok(())

@@ -112,12 +112,27 @@ fn close_operand(out: &mut String, term: &Term) -> Result<(), AllocError>
     Ok(())
 }
 
-/// Writes a sign between two operands.
-fn write_sign(out: &mut String, left: &Term, sign: &str, right: &Term) -> Result<(), AllocError>
-    ensures { OnOk result (string_bytes out.new ≡ string_bytes out.old ++ when (grouped_term left.now) (codes ")") ++ sign.now ++ when (grouped_term right.now) (codes "(")) }
+fn write_plus(out: &mut String, left: &Term, right: &Term) -> Result<(), AllocError>
+    ensures { OnOk result (string_bytes out.new ≡ string_bytes out.old ++ when (grouped_term left.now) (codes ")") ++ codes " + " ++ when (grouped_term right.now) (codes "(")) }
 {
     close_operand(out, left)?;
-    out.push_str(sign)?;
+    out.push_str(" + ")?;
+    open_operand(out, right)
+}
+
+fn write_minus(out: &mut String, left: &Term, right: &Term) -> Result<(), AllocError>
+    ensures { OnOk result (string_bytes out.new ≡ string_bytes out.old ++ when (grouped_term left.now) (codes ")") ++ codes " - " ++ when (grouped_term right.now) (codes "(")) }
+{
+    close_operand(out, left)?;
+    out.push_str(" - ")?;
+    open_operand(out, right)
+}
+
+fn write_star(out: &mut String, left: &Term, right: &Term) -> Result<(), AllocError>
+    ensures { OnOk result (string_bytes out.new ≡ string_bytes out.old ++ when (grouped_term left.now) (codes ")") ++ codes " * " ++ when (grouped_term right.now) (codes "(")) }
+{
+    close_operand(out, left)?;
+    out.push_str(" * ")?;
     open_operand(out, right)
 }
 
@@ -158,7 +173,7 @@ pub(crate) fn write_term(out: &mut String, depth: u64, term: &Term) -> Result<()
             let (left, right) = (left.get(), right.get());
             open_operand(out, left)?;
             write_term(out, depth, left)?;
-            write_sign(out, left, " + ", right)?;
+            write_plus(out, left, right)?;
             write_term(out, depth, right)?;
             close_operand(out, right)?;
             Ok(())
@@ -167,7 +182,7 @@ pub(crate) fn write_term(out: &mut String, depth: u64, term: &Term) -> Result<()
             let (left, right) = (left.get(), right.get());
             open_operand(out, left)?;
             write_term(out, depth, left)?;
-            write_sign(out, left, " - ", right)?;
+            write_minus(out, left, right)?;
             write_term(out, depth, right)?;
             close_operand(out, right)?;
             Ok(())
@@ -176,7 +191,7 @@ pub(crate) fn write_term(out: &mut String, depth: u64, term: &Term) -> Result<()
             let (left, right) = (left.get(), right.get());
             open_operand(out, left)?;
             write_term(out, depth, left)?;
-            write_sign(out, left, " * ", right)?;
+            write_star(out, left, right)?;
             write_term(out, depth, right)?;
             close_operand(out, right)?;
             Ok(())
