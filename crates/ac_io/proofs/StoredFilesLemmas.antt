@@ -1,5 +1,5 @@
 -- A list of files by name, after one file changed or was added.
-use Rattle.std.proofs.Common.{◌≡◌, ◌≢◌, ℕ, ◌+◌, ◌<◌, ◌≤◌, Bool, true, false, cond, List, [], ◌∷◌, ◌++◌, length, get_or, slice_get, nat_lt, inl, inr, find, position, Option, Some, None, refl, sym, ap, ◌∙◌, subst, arith, rules}
+use Rattle.std.proofs.Common.{◌≡◌, ◌≢◌, ℕ, ◌+◌, Bool, true, false, List, [], ◌∷◌, ◌++◌, length, get_or, slice_get, nat_lt, inl, inr, find, position, Option, Some, None, refl, sym, ap, ◌∙◌}
 use Rattle.std.proofs.Math.ListN.{set}
 use Rattle.std.specs.List.{position_or_len}
 use Rattle.std.specs.Str.{bytes_eq}
@@ -7,7 +7,7 @@ use Rattle.std.proofs.lemmas.Slice.Eq.{bytes_eq-Decides}
 use Rattle.std.proofs.lemmas.List.Folds.{find_at, find-set, find_past, find-append}
 use Rattle.std.proofs.lemmas.List.Quantifiers.{position-Some}
 use Rattle.std.proofs.lemmas.Option.{slice_get-get_or, slice_get_past}
-use Rattle.std.proofs.lemmas.Bool.{cases_Bool, cond-true, cond-false, ltb-false, false_from_ne_true, false≢true}
+use Rattle.std.proofs.lemmas.Bool.{cases_Bool, cond-true, cond-false, ltb-false, false_from_ne_true}
 use Rattle.std.proofs.lemmas.Bool.Decides.{not_from_Decides}
 use Rattle.std.specs.Option.{option_or}
 use Rattle.ac_io.specs.StoredFile.{StoredFile, has_name, bytes_of, room_of}
@@ -26,8 +26,9 @@ place_is : (p : StoredFile → Bool) (files : List StoredFile) (place : ℕ) →
 place_is p files place at =
     let n = position_or_len p files in
     elim (cases_Bool (nat_lt n (length files))) [
-      inl t ↦ let e = cond-true (nat_lt n (length files)) (Some n) None t in cc
-      | inr f ↦ let e = cond-false (nat_lt n (length files)) (Some n) None f in cc ]
+      | inl t ↦ let e = cond-true (nat_lt n (length files)) (Some n) None t in cc
+      | inr f ↦ let e = cond-false (nat_lt n (length files)) (Some n) None f in cc
+    ]
 
 -- the file at the place of a name has that name
 pub name-at : (name : List ℕ) (files : List StoredFile) (place : ℕ) (file : StoredFile) → position (has_name name) files ≡ Some place → (get_or files place file).name ≡ name
@@ -41,8 +42,9 @@ pub find-none : (name : List ℕ) (files : List StoredFile) → position (has_na
 find-none name files absent =
     let n = position_or_len (has_name name) files in
     elim (cases_Bool (nat_lt n (length files))) [
-      inl t ↦ let e = cond-true (nat_lt n (length files)) (Some n) None t in cc
-      | inr f ↦ find_at (has_name name) files ∙ slice_get_past files n (ltb-false n (length files) f) ]
+      | inl t ↦ let e = cond-true (nat_lt n (length files)) (Some n) None t in cc
+      | inr f ↦ find_at (has_name name) files ∙ slice_get_past files n (ltb-false n (length files) f)
+    ]
 
 -- after a change of its file, a name has the new file
 pub find-changed : (name : List ℕ) (files : List StoredFile) (place : ℕ) (file : StoredFile) → position (has_name name) files ≡ Some place → file.name ≡ name → find (has_name name) (set files place file) ≡ Some file
@@ -81,9 +83,28 @@ room-none name files absent = ap room_of (find-none name files absent)
 pub bytes-changed : (name : List ℕ) (files : List StoredFile) (place : ℕ) (file old : StoredFile) → position (has_name name) files ≡ Some place → file.name ≡ name → old ≡ get_or files place old → file.bytes ≡ old.bytes → SameBytes files (set files place file)
 bytes-changed name files place file old at same was stays other =
     elim (cases_Bool (bytes_eq other name)) [
-      inl t ↦
-        let is = (bytes_eq-Decides other name).0 t in
-        let here : bytes_of (find (has_name name) (set files place file)) ≡ bytes_of (find (has_name name) files) =
+      | inl t ↦
+          let is = (bytes_eq-Decides other name).0 t in
+          let here : bytes_of (find (has_name name) (set files place file)) ≡ bytes_of (find (has_name name) files) =
           ap bytes_of (find-changed name files place file at same) ∙ stays ∙ ap (λ (f : StoredFile). f.bytes) was ∙ ap bytes_of (sym (find-at name files place old at)) in
-        rw is here
-      | inr f ↦ ap bytes_of (find-changed_other name other files place file at same (not_from_Decides (bytes_eq other name) (bytes_eq-Decides other name) f)) ]
+          rw is here
+      | inr f ↦ ap bytes_of (find-changed_other name other files place file at same (not_from_Decides (bytes_eq other name) (bytes_eq-Decides other name) f))
+    ]
+
+pub room-changed : (name : List ℕ) (files : List StoredFile) (place : ℕ) (file : StoredFile) → position (has_name name) files ≡ Some place → file.name ≡ name → room_of (find (has_name name) (set files place file)) ≡ file.room + 1
+room-changed name files place file at same = ap room_of (find-changed name files place file at same)
+
+pub room-pushed : (name : List ℕ) (files : List StoredFile) (file : StoredFile) → position (has_name name) files ≡ None → file.name ≡ name → room_of (find (has_name name) (files ++ file ∷ [])) ≡ file.room + 1
+room-pushed name files file absent same = ap room_of (find-pushed name files file absent same)
+
+-- so does a file without contents that is added
+pub bytes-pushed : (name : List ℕ) (files : List StoredFile) (file : StoredFile) → position (has_name name) files ≡ None → file.name ≡ name → file.bytes ≡ None → SameBytes files (files ++ file ∷ [])
+bytes-pushed name files file absent same empty other =
+    elim (cases_Bool (bytes_eq other name)) [
+      | inl t ↦
+          let is = (bytes_eq-Decides other name).0 t in
+          let here : bytes_of (find (has_name name) (files ++ file ∷ [])) ≡ bytes_of (find (has_name name) files) =
+          ap bytes_of (find-pushed name files file absent same) ∙ empty ∙ ap bytes_of (sym (find-none name files absent)) in
+          rw is here
+      | inr f ↦ ap bytes_of (find-pushed_other name other files file same (not_from_Decides (bytes_eq other name) (bytes_eq-Decides other name) f))
+    ]

@@ -1,6 +1,5 @@
 -- Files in memory, as contracts see them, and what a load and a save of them answer and leave.
-use Rattle.std.specs.Prelude.{◌≡◌, ◌≢◌, ℕ, ◌+◌, ◌<◌, ◌≤◌, ◌⊎◌, Bool, List, length, find, Contains, Option, Some, None, Result, Ok, Err, Vec}
-use Rattle.std.specs.Str.{bytes_eq}
+use Rattle.std.specs.Prelude.{◌≡◌, ◌≢◌, ℕ, ◌<◌, ◌≤◌, ◌⊎◌, List, length, find, Contains, Option, Some, None, Result, Ok, Err, Vec}
 use Rattle.std.specs.declared.alloc.Global.{Global}
 use Rattle.ac_io.specs.declared.files.LoadFault.{LoadFault}
 use Rattle.ac_io.specs.declared.files.LoadFault.TheVariants.{Failed, Long, OutOfMemory}

@@ -6,3 +6,4 @@ pub mod Host
 pub mod StoredFile
 pub mod StoredFiles
 pub mod FilesInMemory
+pub mod SinkInMemory

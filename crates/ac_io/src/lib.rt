@@ -6,10 +6,12 @@
 //! output of the host, of whose contents nothing is told.
 #![tactic(auto)]
 
+mod failing_put;
 mod files;
 mod host_files;
 mod host_out;
 mod mem_files;
+mod mem_sink;
 mod sink;
 mod stored_file;
 mod transfer;
@@ -18,4 +20,8 @@ pub use files::{Files, LoadFault, SaveFault};
 pub use host_files::HostFiles;
 pub use host_out::HostOut;
 pub use mem_files::MemFiles;
+pub use mem_sink::MemSink;
 pub use sink::{Sink, SinkFault};
+
+#[cfg(test)]
+mod tests;

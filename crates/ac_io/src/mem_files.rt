@@ -59,6 +59,25 @@ impl MemFiles {
         store(self.alloc, &mut self.files, name, bytes)
     }
 
+    /// Makes the load or save with this number fail, counted from 0 over both. A call that is refused memory isn't counted.
+    pub fn fail(&mut self, call: u64) -> Result<(), AllocError>
+        ensures ok { OnOk result (self.new ≡ record self.old { failing = self.old.failing ++ call ∷ [] }) }
+        ensures err { OnErr result (self.new ≡ self.old) }
+    {
+        self.failing.push(call)?;
+        Ok(())
+    }
+
+    /// Makes room: one save of at most so many bytes under the name then needs no memory.
+    pub fn reserve(&mut self, name: &str, bytes: u64) -> Result<(), AllocError>
+        ensures ok { OnOk result (bytes + 1 ≤ spare_of self.new name.now) }
+        ensures others { SameOtherFiles name.now self.old self.new }
+        ensures contents { SameContents (contents_of self.old) (contents_of self.new) }
+        ensures rest { self.new ≡ record self.old { files = self.new.files } }
+    {
+        make_room(self.alloc, &mut self.files, name, bytes)
+    }
+
     /// The contents of a name; none where it has none.
     pub fn get(&self, name: &str) -> Option<&[u8]>
         ensures { option_copied result ≡ contents_of self.now name.now }
@@ -196,6 +215,31 @@ fn store(
         None => {
             let mut file = StoredFile::new(alloc, name)?;
             file.set(bytes)?;
+            files.push(file)?;
+            Ok(())
+        }
+    }
+}
+
+/// Makes room for so many bytes under a name, which gets no contents by it.
+fn make_room(
+    alloc: Global,
+    files: &mut Vec<StoredFile>,
+    name: &str,
+    bytes: u64,
+) -> Result<(), AllocError>
+    ensures ok { OnOk result (bytes + 1 ≤ room_of (find (has_name name.now) files.new.items)) }
+    ensures others { SameOthers name.now files.old.items files.new.items }
+    ensures contents { SameBytes files.old.items files.new.items }
+{
+    match place_of(files.as_slice(), name) {
+        Some(place) => {
+            let file = &mut files[place];
+            file.reserve(bytes as usize)
+        }
+        None => {
+            let mut file = StoredFile::new(alloc, name)?;
+            file.reserve(bytes as usize)?;
             files.push(file)?;
             Ok(())
         }

@@ -1,4 +1,6 @@
-ghost use Rattle.std.specs.Prelude.{◌≡◌, ◌+◌, ◌^◌, ◌<◌, ◌≤◌, ◌++◌, IfOk, OnOk, length, take, vec_len};
+ghost use Rattle.std.specs.Prelude.{◌≡◌, ◌≢◌, ◌+◌, ◌^◌, ◌<◌, ◌≤◌, ◌++◌, IfOk, IfSome, OnOk, OnErr, List, ℕ, length, take, vec_len};
+ghost use Rattle.std.specs.Result.{IsErrOf};
+ghost use Rattle.std.specs.Io.KnownBytes.{Appends, Consumes, IsAtEnd};
 
 use crate::files::LoadFault;
 use std::alloc::Global;
@@ -8,10 +10,15 @@ use std::io::{Read, Write};
 #[derive(Debug, Drop)]
 pub struct Stopped;
 
+/// How many bytes one read asks for at most.
+const LONGEST_READ: usize = 8192;
+
 /// Reads to the end, and gives up as soon as there are more than `limit` bytes.
 pub fn read_within<R: Read>(alloc: Global, from: &mut R, limit: u64) -> Result<Vec<u8>, LoadFault>
     requires { limit < 2 ^ 63 }
-    ensures { IfOk result (λ found. vec_len found ≤ limit) }
+    ensures within { IfOk result (λ found. vec_len found ≤ limit) }
+    ensures whole { IfOk result (λ found. IfSome (R.remaining from.old) (λ left. found.items ≡ left)) }
+    ensures long { IsErrOf result LoadFault.Long → IfSome (R.remaining from.old) (λ left. limit < length left) }
 {
     let mut found = Vec::new(alloc);
     while found.len() as u64 <= limit {
@@ -28,9 +35,12 @@ fn read_some<R: Read>(from: &mut R, found: &mut Vec<u8>, most: u64) -> Result<u6
     requires { 0 < most }
     ensures grows { IfOk result (λ n. vec_len found.new ≡ vec_len found.old + n) }
     ensures within { IfOk result (λ n. n ≤ most) }
+    ensures read { OnOk result ((more : List ℕ) × (found.new.items ≡ found.old.items ++ more) × Consumes (R.remaining from.old) (R.remaining from.new) more) }
+    ensures end { IfOk result (λ n. n ≡ 0 → IsAtEnd (R.remaining from.new)) }
+    ensures err { result ≢ Err LoadFault.Long }
 {
-    let mut chunk = [0u8; 8192];
-    let most = most.min(8192) as usize;
+    let mut chunk = [0u8; LONGEST_READ];
+    let most = most.min(LONGEST_READ as u64) as usize;
     let Ok(n) = from.read(&mut chunk[..most]) else {
         return Err(LoadFault::Failed);
     };
@@ -40,8 +50,11 @@ fn read_some<R: Read>(from: &mut R, found: &mut Vec<u8>, most: u64) -> Result<u6
     }
 }
 
-/// Writes all the bytes.
-pub fn write_whole<W: Write>(to: &mut W, bytes: &[u8]) -> Result<(), Stopped> {
+/// Writes all the bytes. Where it stops before the end, it has written a prefix of them.
+pub fn write_whole<W: Write>(to: &mut W, bytes: &[u8]) -> Result<(), Stopped>
+    ensures ok { OnOk result (Appends (W.contents to.old) (W.contents to.new) bytes.now) }
+    ensures err { OnErr result ((kept : ℕ) × Appends (W.contents to.old) (W.contents to.new) (take kept bytes.now)) }
+{
     let mut rest = bytes;
     while !rest.is_empty() {
         match to.write(rest) {

@@ -1,6 +1,5 @@
 -- Which formulas have a text that reads back: those with no loose `Bound`, no new name as an array, and good names.
-use Rattle.std.specs.Prelude.{ℕ, List, [], ◌∷◌, ◌||◌, nat_eq, IsTrue, All, Contains, codes}
-use Rattle.std.specs.Char.{is_ascii_alphabetic, is_ascii_alphanumeric}
+use Rattle.ac_tree.specs.Tokens.{IsName}
 use Rattle.ac_logic.specs.declared.formula.Sym.{Sym}
 use Rattle.ac_logic.specs.declared.formula.Sym.TheVariants.{Value, Init, Fresh}
 use Rattle.ac_logic.specs.declared.formula.Term.{Term, Num, Bound}
@@ -9,17 +8,6 @@ use Rattle.ac_logic.specs.declared.formula.Formula.{Formula, True, False, Le, Eq
 use Rattle.ac_logic.specs.Patterns.{Scalar, Array, ReadOf, Sum, Difference, Product, Negative, PutOf, Negation, Conjunction, Disjunction, Implication, Every, Labelled}
 use Rattle.ac_logic.specs.Opened.{hidden, formula_shape, formula_child, term_shape, term_child, array_shape, array_child}
 use Rattle.ac_logic.specs.Bounds.{IsTermClosed, IsArrayClosed, IsClosed}
-
-unfoldable pub reserved_words : List (List ℕ)
-reserved_words =
-    codes "all" ∷ codes "and" ∷ codes "as" ∷ codes "begin" ∷ codes "const" ∷ codes "do" ∷ codes "else" ∷ codes "end" ∷
-    codes "false" ∷ codes "for" ∷ codes "if" ∷ codes "implies" ∷ codes "init" ∷ codes "input" ∷ codes "not" ∷ codes "or" ∷
-    codes "put" ∷ codes "skip" ∷ codes "then" ∷ codes "to" ∷ codes "true" ∷ codes "use" ∷ codes "var" ∷ codes "while" ∷ []
-
--- A name of the language: a letter, then letters, digits and `_` (95); and it is no reserved word.
-abbrev pub IsName : List ℕ → Type 0
-IsName [] = ⊥
-IsName (c ∷ cs) = IsTrue (is_ascii_alphabetic c) × All (λ d. IsTrue (is_ascii_alphanumeric d || nat_eq d 95)) cs × (Contains reserved_words (c ∷ cs) → ⊥)
 
 abbrev pub IsReadableScalar : Sym → Type 0
 IsReadableScalar (Value n) = IsName n

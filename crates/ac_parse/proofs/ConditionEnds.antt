@@ -76,18 +76,20 @@ pub record Ending (m : CondReading) : Type 0 where
 pub condition_ends : (m : CondReading) → Ending m
 condition_ends m = let c = completed m.stack m.state in record { tree = c.tree; tokens = c.tokens; reaches = reached step value c.tokens m c.tree c.reads }
 
--- a token that it takes is its own: `then` and `do` are not
+-- a token that it takes is its own: `then`, `do` and `end` are not
 having_own : (k : Stack) (a : Option Test) (x : Test) (s : Span) (m : Mark) (j : CondReading) → having k a x s m ≡ Some j → is_own m ≡ true
 having_own k a x s (mark.Keyword keyword.Then) j h = cc
 having_own k a x s (mark.Keyword keyword.Do) j h = cc
+having_own k a x s (mark.Keyword keyword.End) j h = cc
 having_own k a x s _ j h = refl
 
 wanting_own : (k : Stack) (p : Before) (s : Span) (m : Mark) (j : CondReading) → wanting k p s m ≡ Some j → is_own m ≡ true
 wanting_own k p s (mark.Keyword keyword.Then) j h = cc
 wanting_own k p s (mark.Keyword keyword.Do) j h = cc
+wanting_own k p s (mark.Keyword keyword.End) j h = cc
 wanting_own k p s _ j h = refl
 
-none_passed : (after : Operand → Option CondReading) (v : Option Operand) (j : CondReading) → ((x : Operand) → after x ≡ None) → passed after v ≡ Some j → ⊥
+pub none_passed : {V S : Type 0} (after : V → Option S) (v : Option V) (j : S) → ((x : V) → after x ≡ None) → passed after v ≡ Some j → ⊥
 none_passed after None j n h = cc
 none_passed after (Some x) j n h = let e = n x in cc
 
@@ -99,10 +101,15 @@ side_do : (k : Stack) (p : Before) (side : Side) (s : Span) (x : Operand) → be
 side_do k p Left s x = refl
 side_do k p (Right r a) s x = refl
 
+side_end : (k : Stack) (p : Before) (side : Side) (s : Span) (x : Operand) → behind k p side s (mark.Keyword keyword.End) x ≡ None
+side_end k p Left s x = refl
+side_end k p (Right r a) s x = refl
+
 side_own : (k : Stack) (p : Before) (side : Side) (m : Reading) (s : Span) (n : Mark) (o : Option Reading) (j : CondReading) →
     inside (comparing k p side) (behind k p side s n) (expression.is_own m.stack n) o (expression.value m) ≡ Some j → is_own n ≡ true
 side_own k p side m s (mark.Keyword keyword.Then) o j h = absurd (none_passed (behind k p side s (mark.Keyword keyword.Then)) (expression.value m) j (side_then k p side s) h)
 side_own k p side m s (mark.Keyword keyword.Do) o j h = absurd (none_passed (behind k p side s (mark.Keyword keyword.Do)) (expression.value m) j (side_do k p side s) h)
+side_own k p side m s (mark.Keyword keyword.End) o j h = absurd (none_passed (behind k p side s (mark.Keyword keyword.End)) (expression.value m) j (side_end k p side s) h)
 side_own k p side m s _ o j h = refl
 
 state_own : (k : Stack) (s : CondState) (t : Token) (j : CondReading) → step_at k s t ≡ Some j → is_own t.mark ≡ true

@@ -5,3 +5,14 @@ pub mod ExpressionEnds
 pub mod ConditionComplete
 pub mod ConditionSound
 pub mod ConditionEnds
+pub mod ByteKinds
+pub mod Runs
+pub mod Placed
+pub mod Scan
+pub mod Cuts
+pub mod StatementComplete
+pub mod StatementSound
+pub mod StatementEnds
+pub mod ProgramComplete
+pub mod ProgramSound
+pub mod ProgramEnds

@@ -144,8 +144,9 @@ value m = value_at m.stack m.state
 abbrev pub runs : CondReading → Tokens → Option Test
 runs = steps.runs step value
 
--- `then` and `do` belong to the statement
+-- `then`, `do` and `end` belong to the statement
 abbrev pub is_own : Mark → Bool
 is_own (mark.Keyword keyword.Then) = false
 is_own (mark.Keyword keyword.Do) = false
+is_own (mark.Keyword keyword.End) = false
 is_own _ = true

@@ -6,5 +6,10 @@
 #![tactic(auto)]
 
 mod condition;
+mod declaration;
 mod expression;
 mod stack;
+mod statement;
+mod tokens;
+
+pub use tokens::{TokenFault, tokenize, utf8_text};

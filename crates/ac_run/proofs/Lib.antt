@@ -1,2 +1,5 @@
-pub mod Straight
+pub mod WritesWithin
 pub mod Judging
+pub mod Halts
+pub mod SomeStart
+pub mod Growth

@@ -1,5 +1,5 @@
 -- A rewrite changes no truth and brings no label.
-use Rattle.std.proofs.Common.{◌≡◌, ℕ, ℤ, List, [], ◌∷◌, Bool, true, false, T, refl, ◌≤ℤ◌}
+use Rattle.std.proofs.Common.{◌≡◌, ℕ, ℤ, List, [], ◌∷◌, Bool, true, false, T, refl, sym, subst, ◌≤ℤ◌}
 use Rattle.std.specs.Ordering.{int_eq}
 use Rattle.std.proofs.lemmas.Bool.Decides.{Decides-int_eq}
 use lib.Signed.{le_z}
@@ -10,7 +10,7 @@ use Rattle.ac_logic.proofs.Stable.{stable}
 use Rattle.ac_simplify.specs.declared.rewrite.Rewrite.{Rewrite}
 use Rattle.ac_simplify.specs.Rewriting as rewriting
 use Rattle.ac_simplify.specs.Rewriting.{truth, Applies, AppliesAt, Replays}
-use Rattle.ac_simplify.specs.Opened.{hidden, formula_shape, formula_child}
+use Rattle.ac_simplify.specs.Opened.{hidden, formula_shape, formula_child, term_shape, term_child, array_shape, array_child}
 
 module _ (w : Valuation) where
   -- both hold alike
@@ -18,15 +18,17 @@ module _ (w : Valuation) where
   Alike e a b = (HoldsIn w e a → HoldsIn w e b) × (HoldsIn w e b → HoldsIn w e a)
 
   le_truth : (e : List ℤ) (m n : ℤ) (b : Bool) → b ≡ le_z m n → (m ≤ℤ n → HoldsIn w e (truth b)) × (HoldsIn w e (truth b) → m ≤ℤ n)
-  le_truth e m n true s = (λ _. tt, λ _. record { le = rw (← s) tt })
-  le_truth e m n false s = (λ p. let q : T false = rw s p.le in q, λ f. absurd f)
+  unfolding hidden formula_shape formula_child
+  le_truth e m n true s = (λ _. tt, λ _. record { le = subst (λ (b : Bool). T b) s tt })
+  le_truth e m n false s = (λ p. subst (λ (b : Bool). T b) (sym s) p.le, λ f. absurd f)
 
   eq_truth : (e : List ℤ) (m n : ℤ) (b : Bool) → b ≡ int_eq m n → (m ≡ n → HoldsIn w e (truth b)) × (HoldsIn w e (truth b) → m ≡ n)
+  unfolding hidden formula_shape formula_child
   eq_truth e m n true s = (λ _. tt, λ _. (Decides-int_eq m n).0 (cc))
   eq_truth e m n false s = (λ p. let q = (Decides-int_eq m n).1 p in cc, λ f. absurd f)
 
   holds_alike : (e : List ℤ) {r : ℕ} {a b : Formula} → Applies r a b → Alike e a b
-  unfolding hidden formula_shape formula_child
+  unfolding hidden formula_shape formula_child term_shape term_child array_shape array_child
   holds_alike e (rewriting.true_and x) = (λ p. p.1, λ p. (tt, p))
   holds_alike e (rewriting.and_true x) = (λ p. p.0, λ p. (p, tt))
   holds_alike e (rewriting.false_and x) = (λ p. p.0, λ p. absurd p)

@@ -3,6 +3,8 @@
 
 mod first_rule;
 mod rewrite;
+#[cfg(test)]
+mod tests;
 mod walk;
 
 pub use rewrite::{Rewrite, Simplified};

@@ -1,7 +1,14 @@
 //! The walk from the leaves up.
 ghost use Rattle.std.specs.Prelude.{◌≡◌, ℕ, List, ◌++◌, ◌∷◌, [], map, IfOk, MatchOption, OnOk, None};
+ghost use Rattle.std.specs.Prelude.{ℤ, ◌↔◌, ◌⊎◌};
+ghost use Rattle.std.specs.List.{Contains};
 ghost use Rattle.std.specs.Option.{unwrap_or};
-ghost use Rattle.ac_logic.specs.declared.formula.Formula.{Formula};
+ghost use Rattle.ac_logic.specs.declared.label.Label.{Label};
+ghost use Rattle.ac_logic.specs.Labels.{labels_of};
+ghost use Rattle.ac_logic.specs.Aim.{AimsAt};
+ghost use Rattle.ac_logic.specs.Meaning.{Valuation, HoldsIn};
+ghost use Rattle.ac_simplify.specs.Rewriting.{Replays, IsSimple};
+ghost use Rattle.ac_logic.specs.declared.formula.Formula.{Formula, True};
 ghost use Rattle.ac_simplify.specs.Order.{below, simplified, rewrites_of, settled, settling, inside, inside_rewrites};
 
 use crate::first_rule::first_rule;
@@ -42,8 +49,23 @@ impl Walk {
     }
 }
 
-/// The formula with its rewrites, made from the leaves up and the left side first until no rule applies.
+/// Simplifies a formula by the sixteen rules, from the leaves up and the left side first, until none applies.
+///
+/// The time is linear in the size of the formula, and in that of the rewrites with their paths. Where nothing under a node
+/// changes, the very node is shared.
 pub fn simplify(alloc: Global, formula: &Shared<Formula>) -> Result<Simplified, AllocError>
+    ensures replays { IfOk result (λ s. Replays s.rewrites formula.now s.formula) }
+    ensures in_order { IfOk result (λ s. s.rewrites ≡ rewrites_of formula.now) }
+    ensures simple { IfOk result (λ s. IsSimple s.formula) }
+    ensures holds { IfOk result (λ s. (w : Valuation) (e : List ℤ) → HoldsIn w e s.formula ↔ HoldsIn w e formula.now) }
+    ensures labels { IfOk result (λ s. (l : Label) → Contains (labels_of s.formula) l → Contains (labels_of formula.now) l) }
+    ensures aims { IfOk result (λ s. (l : Label) → AimsAt l formula.now → AimsAt l s.formula ⊎ (s.formula ≡ True)) }
+{
+    let simple = simplify_whole(alloc, formula)?;
+    Ok(simple)
+}
+
+fn simplify_whole(alloc: Global, formula: &Shared<Formula>) -> Result<Simplified, AllocError>
     ensures formula { IfOk result (λ s. s.formula ≡ simplified formula.now) }
     ensures rewrites { IfOk result (λ s. s.rewrites ≡ rewrites_of formula.now) }
 {

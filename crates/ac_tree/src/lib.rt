@@ -11,6 +11,7 @@ mod node;
 mod path;
 mod policy;
 mod program;
+mod static_rules;
 mod token;
 
 pub use limit::LimitKind;
@@ -22,4 +23,5 @@ pub use program::{
     Cond, CondKind, Expr, ExprKind, Extent, Extents, Index, Item, ItemKind, Program, RelOp, Stmt,
     StmtKind,
 };
+pub use static_rules::StaticFault;
 pub use token::{ByteKind, Keyword, Mark, Sign, Token};

@@ -1,5 +1,5 @@
 use Rattle.std.proofs.lemmas.Result.{on_ok_weaker, on_err_weaker}
-use Rattle.std.proofs.Common.{◌≡◌, find, ◌<◌, ◌≤◌, ◌+◌, length, position, Some, None, arith, rules, sym, ap, ◌∙◌}
+use Rattle.std.proofs.Common.{◌≡◌, find, position, Some, None, arith, ap, ◌∙◌}
 use Rattle.ac_io.specs.StoredFile.{StoredFile, has_name, bytes_of}
 use Rattle.ac_io.proofs.StoredFilesLemmas.{name-at, find-changed, find-changed_other, find-pushed, find-pushed_other, room-at, room-none, bytes-changed}
 use Rattle.ac_io.proofs.mem_files.store.Goals as goal

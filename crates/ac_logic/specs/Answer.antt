@@ -1,0 +1,6 @@
+-- How a walk over a tree answers: the new tree, or None where it is the old one.
+use Rattle.std.specs.Prelude.{Option, Some, None}
+
+abbrev pub renewed : {A : Type 0} → A → Option A → A
+renewed old None = old
+renewed old (Some new) = new
