@@ -1,3 +1,4 @@
 pub mod Naming
 pub mod Readings
+pub mod Reports
 pub mod WordsLemmas

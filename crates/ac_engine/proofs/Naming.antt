@@ -101,7 +101,7 @@ names-push : (items : List Item) (d : Item) → names_of (items ++ d ∷ []) ≡
 names-push items d = map-both (λ (i : Item). i.name) items (d ∷ [])
 
 -- the declarations so far and the next one
-taken : {A : Type 0} (xs : List A) (i : ℕ) (x : A) → i < length xs → x ≡ get_or xs i x → take (i + 1) xs ≡ take i xs ++ x ∷ []
+pub taken : {A : Type 0} (xs : List A) (i : ℕ) (x : A) → i < length xs → x ≡ get_or xs i x → take (i + 1) xs ≡ take i xs ++ x ∷ []
 taken {A = A} xs i x low e = take_more xs i x low ∙ ap (λ (y : A). take i xs ++ y ∷ []) (sym e)
 
 declared_next : (items : List Item) (i : ℕ) (d : Item) → i < length items → d ≡ get_or items i d → AreDeclared (take i items) →

@@ -3,10 +3,12 @@
 
 mod heads;
 mod names;
+mod outcome;
 mod policy;
 mod report;
 mod status;
 mod straight;
 mod words;
 
+pub use outcome::Outcome;
 pub use status::Status;
