@@ -21,7 +21,7 @@ abbrev pub unproved_line : Node → List ℕ
 unproved_line n =
     codes "unproved bounds start -> site " ++ (decimal n.id.0 ++ (codes " at " ++ (decimal n.span.start ++ (codes ".." ++ decimal n.span.end))))
 
-abbrev pub lines_of : Outcome → List (List ℕ)
+unfoldable pub lines_of : Outcome → List (List ℕ)
 lines_of (Accepted k) =
     codes "accepted" ∷
     (codes "bounds: " ++ (decimal k ++ codes " conditions proved")) ∷
@@ -41,5 +41,5 @@ lines_of ReadFault = codes "read fault" ∷ []
 abbrev pub line : List ℕ → List ℕ
 line text = text ++ 10 ∷ []
 
-abbrev pub report : Outcome → List ℕ
+unfoldable pub report : Outcome → List ℕ
 report o = flat_map line (lines_of o)

@@ -1,6 +1,8 @@
 //! The top call.
 #![tactic(auto, unfolding(crate::specs::Opened::expr_shape, crate::specs::Opened::expr_child, crate::specs::Opened::hidden))]
 
+mod building;
+mod certify;
 mod heads;
 mod names;
 mod outcome;
@@ -10,5 +12,6 @@ mod status;
 mod straight;
 mod words;
 
+pub use certify::autocert;
 pub use outcome::Outcome;
 pub use status::Status;

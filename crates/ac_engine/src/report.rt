@@ -13,6 +13,7 @@ use std::fmt::Write;
 const USAGE: &str = "usage: certify PROGRAM POLICY CERT [--argument FILE] [--explain] | check PROGRAM POLICY CERT | show PROGRAM POLICY | make N\n";
 
 /// The whole report of an outcome.
+#[tactic(auto, unfolding(crate::specs::Report::report, crate::specs::Report::lines_of))]
 pub(crate) fn report(alloc: Global, outcome: &Outcome) -> Result<String, AllocError>
     ensures { IfOk result (λ text. string_bytes text ≡ report outcome.now) }
 {
@@ -30,6 +31,7 @@ pub(crate) fn report(alloc: Global, outcome: &Outcome) -> Result<String, AllocEr
 }
 
 /// The report of a program all of whose conditions are proved.
+#[tactic(auto, unfolding(crate::specs::Report::report, crate::specs::Report::lines_of))]
 fn accepted(alloc: Global, conditions: usize) -> Result<String, AllocError>
     ensures { IfOk result (λ text. string_bytes text ≡ report (Accepted conditions)) }
 {
@@ -37,6 +39,7 @@ fn accepted(alloc: Global, conditions: usize) -> Result<String, AllocError>
 }
 
 /// The report of a program with unproved conditions, those of the writes at these nodes.
+#[tactic(auto, unfolding(crate::specs::Report::report, crate::specs::Report::lines_of))]
 fn rejected(
     alloc: Global,
     conditions: usize,

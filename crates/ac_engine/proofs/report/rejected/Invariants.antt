@@ -8,4 +8,4 @@ use Rattle.ac_engine.proofs.report.rejected.Given as goal
 -- the lines of the nodes so far stand behind the head
 abbrev pub invariant-loop-node : goal.invariant-loop-node
 invariant-loop-node l =
-    string_bytes l.text ≡ rejected_head l.conditions (length l.unproved) ++ flat_map line (map unproved_line (take l.node-index l.unproved))
+    string_bytes l.text ≡ rejected_head l.fn.conditions (length l.unproved) ++ flat_map line (map unproved_line (take l.node-index l.unproved))
