@@ -56,9 +56,10 @@ not_distinct (x ∷ xs) ys y c d =
 
 distinct_push : (xs : List Word) (y : Word) → AreDistinct xs → (Contains xs y → ⊥) → AreDistinct (xs ++ y ∷ [])
 distinct_push [] y d new = (λ c. none_in y c, tt)
-distinct_push (x ∷ xs) y d new =
-    (λ c. ⊎_elim d.0 (λ one. ⊎_elim (λ e. new (at_head x xs y (sym e))) (λ none. none_in x none) (head_or_tail y [] x one)) (Contains-append_cases xs (y ∷ []) x c),
-     distinct_push xs y d.1 (λ c. new (in_tail x xs y c)))
+distinct_push (x ∷ xs) y d new = (
+  λ c. ⊎_elim d.0 (λ one. ⊎_elim (λ e. new (at_head x xs y (sym e))) (λ none. none_in x none) (head_or_tail y [] x one)) (Contains-append_cases xs (y ∷ []) x c),
+  distinct_push xs y d.1 (λ c. new (in_tail x xs y c)),
+)
 
 found_case : (b : Bool) (d : Item) (ns : List Word) (x : Word) (n : ℕ) (o : Option ℕ) → bytes_eq x d.name ≡ b → (o ≡ Some n → Contains ns x) →
     cond b (Some (extent_of d.kind)) o ≡ Some n → Contains (d.name ∷ ns) x
@@ -108,9 +109,10 @@ declared_next : (items : List Item) (i : ℕ) (d : Item) → i < length items �
     extent_in (entries_of (take i items)) d.name ≡ None → 1 ≤ extent_of d.kind → AreDeclared (take (i + 1) items)
 declared_next items i d low e before new large =
     let next = sym (taken items i d low e) in
-    subst (λ (ds : List Item). AreDeclared ds) next
-      (subst (λ (ns : List Word). AreDistinct ns) (sym (names-push (take i items) d)) (distinct_push (names_of (take i items)) d.name before.0 (missing (take i items) d.name new)),
-       All-push (λ (d : Item). 1 ≤ extent_of d.kind) (take i items) d before.1 large)
+    subst (λ (ds : List Item). AreDeclared ds) next (
+      subst (λ (ns : List Word). AreDistinct ns) (sym (names-push (take i items) d)) (distinct_push (names_of (take i items)) d.name before.0 (missing (take i items) d.name new)),
+      All-push (λ (d : Item). 1 ≤ extent_of d.kind) (take i items) d before.1 large,
+    )
 
 -- a new declaration goes into the table
 pub entered : (items : List Item) (i : ℕ) (d : Item) (entries : Entries) (key : Word) (value : ℕ) (old : Option ℕ) (after : Entries) →
@@ -120,9 +122,10 @@ pub entered : (items : List Item) (i : ℕ) (d : Item) (entries : Entries) (key 
 entered items i d entries key value old after low e before so_far named extent large looked new inserted =
     let absent : lookup (bytes_eq key) entries ≡ None = sym looked ∙ none_of old new in
     let absent_there : extent_in (entries_of (take i items)) d.name ≡ None = cc in
-    let is : after ≡ entries_of (take i items) ++ (d.name, extent_of d.kind) ∷ [] = inserted ∙ insert_absent entries key value absent ∙ cc in
-    (declared_next items i d low e before absent_there (omega arith),
-     is ∙ sym (ap entries_of (taken items i d low e) ∙ map-both (λ (d : Item). (d.name, extent_of d.kind)) (take i items) (d ∷ [])))
+    let is : after ≡ entries_of (take i items) ++ (d.name, extent_of d.kind) ∷ [] = inserted ∙ insert_absent entries key value absent ∙ cc in (
+      declared_next items i d low e before absent_there (omega arith),
+      is ∙ sym (ap entries_of (taken items i d low e) ∙ map-both (λ (d : Item). (d.name, extent_of d.kind)) (take i items) (d ∷ [])),
+    )
 
 pub declared_twice : (items : List Item) (i : ℕ) (d : Item) (entries : Entries) (key : Word) (old : Option ℕ) →
     i < length items → d ≡ get_or items i d → entries ≡ entries_of (take i items) → key ≡ d.name → old ≡ lookup (bytes_eq key) entries → is_some old ≡ true → AreDeclared items → ⊥
@@ -131,7 +134,7 @@ declared_twice items i d entries key old low e so_far named looked there all =
     let entry : extent_in (entries_of (take i items)) d.name ≡ Some found_there.0 = cc (found_there.1) in
     let split : items ≡ take i items ++ d ∷ drop (suc i) items = split_at items i d low ∙ ap (λ (y : Item). take i items ++ y ∷ drop (suc i) items) (sym e) in
     let names : names_of items ≡ names_of (take i items) ++ d.name ∷ names_of (drop (suc i) items) =
-      ap names_of split ∙ map-both (λ (i : Item). i.name) (take i items) (d ∷ drop (suc i) items) in
+    ap names_of split ∙ map-both (λ (i : Item). i.name) (take i items) (d ∷ drop (suc i) items) in
     not_distinct (names_of (take i items)) (names_of (drop (suc i) items)) d.name (found (take i items) d.name _ entry) (subst (λ (ns : List Word). AreDistinct ns) names all.0)
 
 pub too_small : (items : List Item) (i : ℕ) (d : Item) → i < length items → d ≡ get_or items i d → extent_of d.kind ≡ 0 → AreDeclared items → ⊥
@@ -155,7 +158,7 @@ pub named_next : (entries : Entries) (body : List Stmt) (i : ℕ) (st : Stmt) (x
 named_next entries body i st x n low e named looked before =
     let there : IsSome (extent_in entries (assignment_of st).name) = subst (λ (o : Option ℕ). IsSome o) (looked ∙ ap (λ (y : Word). extent_in entries y) named) refl in
     subst (λ (xs : List Stmt). AreNamed entries xs) (sym (taken body i st low e))
-      (All-push (λ (st : Stmt). IsSome (extent_in entries (assignment_of st).name)) (take i body) st before there)
+    (All-push (λ (st : Stmt). IsSome (extent_in entries (assignment_of st).name)) (take i body) st before there)
 
 inside_is : (entries : Entries) (st : Stmt) (x : Word) (j n : ℕ) → x ≡ (assignment_of st).name → j ≡ (assignment_of st).index → Some n ≡ lookup (bytes_eq x) entries → is_inside entries st ≡ nat_lt j n
 inside_is entries st x j n named indexed looked =
@@ -220,20 +223,20 @@ not_declared p items e none d =
 named_from : (p : Program) → IsDeclared (straight_of p) → AreNamed (entries_of p.items) p.body
 named_from p d =
     All-imply _ (λ (st : Stmt). IsSome (extent_in (entries_of p.items) (assignment_of st).name)) p.body
-      (λ st c. contained p.items (assignment_of st).name (subst (λ (ns : List Word). Contains ns (assignment_of st).name) (names_map p.items) c))
-      (All-unmap (λ (a : Assignment). Contains (declared (straight_of p)) a.name) assignment_of p.body d.written)
+    (λ st c. contained p.items (assignment_of st).name (subst (λ (ns : List Word). Contains ns (assignment_of st).name) (names_map p.items) c))
+    (All-unmap (λ (a : Assignment). Contains (declared (straight_of p)) a.name) assignment_of p.body d.written)
 
 pub not_all_named : (p : Program) (entries : Entries) → entries ≡ entries_of p.items → (AreNamed entries p.body → ⊥) → IsDeclared (straight_of p) → ⊥
 not_all_named p entries e none d = none (subst (λ (es : Entries). AreNamed es p.body) (sym e) (named_from p d))
 
 pub declared_from : (p : Program) (entries : Entries) → AreDeclared p.items → entries ≡ entries_of p.items → AreNamed entries p.body → IsDeclared (straight_of p)
 declared_from p entries d e named = record {
-    once = subst (λ (ns : List Word). AreDistinct ns) (sym (names_map p.items)) d.0;
-    extents = All-map (λ (d : Declaration). 1 ≤ d.extent) declaration_of p.items d.1;
-    written = All-map (λ (a : Assignment). Contains (declared (straight_of p)) a.name) assignment_of p.body
+  once = subst (λ (ns : List Word). AreDistinct ns) (sym (names_map p.items)) d.0;
+  extents = All-map (λ (d : Declaration). 1 ≤ d.extent) declaration_of p.items d.1;
+  written = All-map (λ (a : Assignment). Contains (declared (straight_of p)) a.name) assignment_of p.body
       (All-imply (λ (st : Stmt). IsSome (extent_in entries (assignment_of st).name)) (λ (st : Stmt). Contains (declared (straight_of p)) (assignment_of st).name) p.body
-        (λ st h. subst (λ (ns : List Word). Contains ns (assignment_of st).name) (sym (names_map p.items)) (some_found p.items (assignment_of st).name (subst (λ (es : Entries). IsSome (extent_in es (assignment_of st).name)) e h))) named)
-  }
+      (λ st h. subst (λ (ns : List Word). Contains ns (assignment_of st).name) (sym (names_map p.items)) (some_found p.items (assignment_of st).name (subst (λ (es : Entries). IsSome (extent_in es (assignment_of st).name)) e h))) named);
+}
 
 above_kind : (i : ℕ) (k : ItemKind) (n : ℕ) → k ≡ VarArray (One (Lit n)) → is_array_above i (Some k) ≡ nat_lt i n
 above_kind i k n e = ap (λ (k : ItemKind). is_array_above i (Some k)) e
@@ -280,6 +283,7 @@ pub answered : {A : Type 0} (nodes : A → List Node) (p : Program) (items : Lis
 answered nodes p items body entries None straight is bodied d h =
     not_all_named p entries (d.1 ∙ ap entries_of is) (λ named. h (subst (λ (xs : List Stmt). AreNamed entries xs) (sym bodied) named))
 answered nodes p items body entries (Some a) straight is bodied d h =
-    let same = d.1 ∙ ap entries_of is in
-    (declared_from p entries (subst (λ (ds : List Item). AreDeclared ds) is d.0) same (subst (λ (xs : List Stmt). AreNamed entries xs) bodied h.0),
-     all_outside p entries (nodes a) straight same (h.1 ∙ ap (λ (xs : List Stmt). outside entries xs) bodied))
+    let same = d.1 ∙ ap entries_of is in (
+      declared_from p entries (subst (λ (ds : List Item). AreDeclared ds) is d.0) same (subst (λ (xs : List Stmt). AreNamed entries xs) bodied h.0),
+      all_outside p entries (nodes a) straight same (h.1 ∙ ap (λ (xs : List Stmt). outside entries xs) bodied),
+    )

@@ -19,10 +19,10 @@ pub one_more_line : (head text after : List ℕ) (nodes : List Node) (i : ℕ) (
 one_more_line head text after nodes i d low before pushed =
     let n = get_or nodes i d in
     let lines : flat_map line (map unproved_line (take (i + 1) nodes)) ≡ flat_map line (map unproved_line (take i nodes)) ++ line (unproved_line n) =
-      ap (λ (ns : List Node). flat_map line (map unproved_line ns)) (take_more nodes i d low)
-      ∙ ap (flat_map line) (map-both unproved_line (take i nodes) (n ∷ []))
-      ∙ flat_map-append line (map unproved_line (take i nodes)) (unproved_line n ∷ [])
-      ∙ ap (λ (ts : List ℕ). flat_map line (map unproved_line (take i nodes)) ++ ts) (append-nil (line (unproved_line n))) in
+    ap (λ (ns : List Node). flat_map line (map unproved_line ns)) (take_more nodes i d low)
+    ∙ ap (flat_map line) (map-both unproved_line (take i nodes) (n ∷ []))
+    ∙ flat_map-append line (map unproved_line (take i nodes)) (unproved_line n ∷ [])
+    ∙ ap (λ (ts : List ℕ). flat_map line (map unproved_line (take i nodes)) ++ ts) (append-nil (line (unproved_line n))) in
     pushed ∙ ap (λ (ts : List ℕ). ts ++ line (unproved_line n)) before ∙ append_assoc head _ (line (unproved_line n)) ∙ sym (ap (λ (ts : List ℕ). head ++ ts) lines)
 
 -- the head and the lines of all nodes are the whole report

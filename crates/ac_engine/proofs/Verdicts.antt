@@ -59,11 +59,11 @@ not_declared_built bytes tokens p c r none q b =
 
 pub spells_one : (bytes : List ℕ) (p : Program) (nodes : List Node) → Builds bytes p nodes → SpellsOne bytes p
 spells_one bytes p nodes b = record {
-    spelled = record { tokens = b.tokens; cut = b.cut.cut; tree = b.read.tree; spelled = b.read.spelled; numbers = b.read.numbers };
-    only = λ other s.
+  spelled = record { tokens = b.tokens; cut = b.cut.cut; tree = b.read.tree; spelled = b.read.spelled; numbers = b.read.numbers };
+  only = λ other s.
       s.numbers ∙ ap numbered_program (one_program (subst (λ (ts : Tokens). SpellsProgram s.tree ts) (cut_once s.cut b.cut.cut) s.spelled) b.read.spelled) ∙ sym b.read.numbers;
-    built = record { short = b.cut.short; tokens = b.tokens; cut = b.cut.cut; small = b.cut.small; form = b.read.form; declared_ = b.declared_; limits = b.read.limits }
-  }
+  built = record { short = b.cut.short; tokens = b.tokens; cut = b.cut.cut; small = b.cut.small; form = b.read.form; declared_ = b.declared_; limits = b.read.limits };
+}
 
 all_within : (p : Program) (body : List Stmt) → map (λ st. st.node) (filter (λ st. not (is_write_within p st.kind)) body) ≡ [] → All (λ st. IsTrue (is_write_within p st.kind)) body
 all_within p [] e = All-nil (λ (st : Stmt). IsTrue (is_write_within p st.kind))
@@ -77,20 +77,20 @@ all_within p (st ∷ body) e = by (is_write_within p st.kind) refl (all_within p
 
 pub accepted : (bytes : List ℕ) (p : Program) (nodes : List Node) (k : ℕ) → Builds bytes p nodes → nodes ≡ [] → k ≡ length p.body → IsAccepted bytes k
 accepted bytes p nodes k b none count = record {
-    program = p;
-    spelled = spells_one bytes p nodes b;
-    count = count;
-    safe = straight_safe p (all_within p p.body (sym b.sites ∙ none)) bounds
-  }
+  program = p;
+  spelled = spells_one bytes p nodes b;
+  count = count;
+  safe = straight_safe p (all_within p p.body (sym b.sites ∙ none)) bounds;
+}
 
 pub rejected : (bytes : List ℕ) (p : Program) (nodes listed : List Node) (k : ℕ) → Builds bytes p nodes → listed ≡ nodes → (listed ≡ [] → ⊥) → k ≡ length p.body → IsRejected bytes k listed
 rejected bytes p nodes listed k b same some count = record {
-    program = p;
-    spelled = spells_one bytes p nodes b;
-    count = count;
-    sites = same ∙ b.sites;
-    some = some
-  }
+  program = p;
+  spelled = spells_one bytes p nodes b;
+  count = count;
+  sites = same ∙ b.sites;
+  some = some;
+}
 
 pub some_built : (bytes : List ℕ) (p : Program) (nodes : List Node) → Builds bytes p nodes → IsSomeBuilt bytes
 some_built bytes p nodes b = (straight_of p, (spells_one bytes p nodes b).built)
@@ -111,6 +111,22 @@ comes_from told before after words n ProgramOutcome asks h = (n, asks, h)
 comes_from told before after words n Policy asks h = (n, asks, h)
 comes_from told before after words n ReadFault asks h = (n, asks, h)
 
+accepted_of : (o : Outcome) → status_of o ≡ status.Accepted → (k : ℕ) × (o ≡ Accepted k)
+accepted_of (Accepted k) e = (k, refl)
+accepted_of (Rejected k nodes) e = cc
+accepted_of Usage e = cc
+accepted_of ProgramOutcome e = cc
+accepted_of Policy e = cc
+accepted_of ReadFault e = cc
+
+rejected_of : (o : Outcome) → status_of o ≡ status.Rejected → (k : ℕ) × (nodes : List Node) × (o ≡ Rejected k nodes)
+rejected_of (Accepted k) e = cc
+rejected_of (Rejected k nodes) e = (k, nodes, refl)
+rejected_of Usage e = cc
+rejected_of ProgramOutcome e = cc
+rejected_of Policy e = cc
+rejected_of ReadFault e = cc
+
 -- what the status of a written report tells
 
 module _ (told : Told) (before after : List ℕ → ℕ) (words : List (List ℕ)) (old new : Option (List ℕ)) (bytes : List ℕ) (added : Adds old new bytes) where
@@ -123,23 +139,15 @@ module _ (told : Told) (before after : List ℕ → ℕ) (words : List (List ℕ
 
   pub accepted_report : (o : Outcome) → Comes told before after words o → bytes ≡ report o → status_of o ≡ status.Accepted →
       (k : ℕ) × Comes told before after words (Accepted k) × Adds old new (report (Accepted k))
-  unfolding Reported
-  accepted_report (Accepted k) h e s = let r = reported (Accepted k) h e in (k, r.0, r.1)
-  accepted_report (Rejected k nodes) h e s = cc
-  accepted_report Usage h e s = cc
-  accepted_report ProgramOutcome h e s = cc
-  accepted_report Policy h e s = cc
-  accepted_report ReadFault h e s = cc
+  accepted_report o h e s =
+      let a = accepted_of o s in
+      (a.0, subst (λ (o : Outcome). Comes told before after words o) a.1 h, subst (λ (bs : List ℕ). Adds old new bs) (e ∙ ap report a.1) added)
 
   pub rejected_report : (o : Outcome) → Comes told before after words o → bytes ≡ report o → status_of o ≡ status.Rejected →
       (k : ℕ) × (nodes : List Node) × Comes told before after words (Rejected k nodes) × Adds old new (report (Rejected k nodes))
-  unfolding Reported
-  rejected_report (Accepted k) h e s = cc
-  rejected_report (Rejected k nodes) h e s = let r = reported (Rejected k nodes) h e in (k, nodes, r.0, r.1)
-  rejected_report Usage h e s = cc
-  rejected_report ProgramOutcome h e s = cc
-  rejected_report Policy h e s = cc
-  rejected_report ReadFault h e s = cc
+  rejected_report o h e s =
+      let r = rejected_of o s in
+      (r.0, r.1, subst (λ (o : Outcome). Comes told before after words o) r.2 h, subst (λ (bs : List ℕ). Adds old new bs) (e ∙ ap report r.2) added)
 
   pub usage_report : (o : Outcome) → Comes told before after words o → bytes ≡ report o → status_of o ≡ status.Usage → HasNoForm words × Adds old new (report Usage)
   unfolding Reported

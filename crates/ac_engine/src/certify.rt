@@ -62,11 +62,7 @@ pub fn autocert<F: Files, S: Sink>(
 }
 
 /// The outcome of a call with these words.
-fn outcome<F: Files>(
-    alloc: Global,
-    words: &[String],
-    files: &mut F,
-) -> Result<Outcome, AllocError>
+fn outcome<F: Files>(alloc: Global, words: &[String], files: &mut F) -> Result<Outcome, AllocError>
     ensures cause { IfOk result (Comes (F.contents files.old) (F.load_faults files.old) (F.load_faults files.new) (texts words.now)) }
     ensures contents_stay { SameContents (F.contents files.old) (F.contents files.new) }
     ensures nothing_loaded { HasNoForm (texts words.now) → files.new ≡ files.old }

@@ -10,6 +10,8 @@ mod policy;
 mod report;
 mod status;
 mod straight;
+#[cfg(test)]
+mod tests;
 mod words;
 
 pub use certify::autocert;

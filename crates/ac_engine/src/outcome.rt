@@ -9,7 +9,9 @@ use sqlite_items::Items;
 #[derive(Drop)]
 pub enum Outcome {
     /// All conditions are proved.
-    Accepted { conditions: usize },
+    Accepted {
+        conditions: usize,
+    },
     /// The conditions of the writes at these nodes are unproved.
     Rejected {
         conditions: usize,

@@ -10,7 +10,8 @@ use std::alloc::{AllocError, Global};
 use std::fmt::Write;
 
 /// The usage line.
-const USAGE: &str = "usage: certify PROGRAM POLICY CERT [--argument FILE] [--explain] | check PROGRAM POLICY CERT | show PROGRAM POLICY | make N\n";
+const USAGE: &str =
+    "usage: certify PROGRAM POLICY CERT [--argument FILE] [--explain] | check PROGRAM POLICY CERT | show PROGRAM POLICY | make N\n";
 
 /// The whole report of an outcome.
 #[tactic(auto, unfolding(crate::specs::Report::report, crate::specs::Report::lines_of))]
@@ -35,20 +36,20 @@ pub(crate) fn report(alloc: Global, outcome: &Outcome) -> Result<String, AllocEr
 fn accepted(alloc: Global, conditions: usize) -> Result<String, AllocError>
     ensures { IfOk result (λ text. string_bytes text ≡ report (Accepted conditions)) }
 {
-    format!(in alloc; "accepted\nbounds: {conditions} conditions proved\nassumption: inputs lie in their declared ranges\nassumption: whole numbers have no bound\n")
+    format!(in alloc;
+        "accepted\nbounds: {conditions} conditions proved\nassumption: inputs lie in their declared ranges\nassumption: whole numbers have no bound\n"
+    )
 }
 
 /// The report of a program with unproved conditions, those of the writes at these nodes.
 #[tactic(auto, unfolding(crate::specs::Report::report, crate::specs::Report::lines_of))]
-fn rejected(
-    alloc: Global,
-    conditions: usize,
-    unproved: &[Node],
-) -> Result<String, AllocError>
+fn rejected(alloc: Global, conditions: usize, unproved: &[Node]) -> Result<String, AllocError>
     ensures { IfOk result (λ text. string_bytes text ≡ report (Rejected conditions unproved.now)) }
 {
     let count = unproved.len();
-    let mut text = format!(in alloc; "rejected\nbounds: {count} of {conditions} conditions unproved\n")?;
+    let mut text = format!(in alloc;
+        "rejected\nbounds: {count} of {conditions} conditions unproved\n"
+    )?;
     for node in unproved {
         push_unproved(&mut text, *node)?;
     }
@@ -61,5 +62,8 @@ fn push_unproved(text: &mut String, node: Node) -> Result<(), AllocError>
     let site = node.id.0;
     let start = node.span.start;
     let end = node.span.end;
-    write!(text, "unproved bounds start -> site {site} at {start}..{end}\n")
+    write!(
+        text,
+        "unproved bounds start -> site {site} at {start}..{end}\n"
+    )
 }

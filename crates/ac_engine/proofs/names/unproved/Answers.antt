@@ -10,4 +10,4 @@ returns-in_default c = not_declared c.args.program.now _ c.as_slice.ensures (rw 
 pub returns : goal.returns
 returns c =
     IfOk-weaker c.outside.result _ _
-      (λ o h. answered (λ (v : Vec Node Global). v.items) c.args.program.now _ _ _ o c.requires c.as_slice.ensures c.as_slice-2.ensures (rw c.in-Some.is at c.in_ok-extents.ensures) h) c.outside.ensures
+    (λ o h. answered (λ (v : Vec Node Global). v.items) c.args.program.now _ _ _ o c.requires c.as_slice.ensures c.as_slice-2.ensures (rw c.in-Some.is at c.in_ok-extents.ensures) h) c.outside.ensures
