@@ -10,7 +10,7 @@ use Rattle.ac_logic.specs.Answer.{renewed}
 use Rattle.ac_logic.specs.Substitution.{term_after, array_after}
 use Rattle.ac_logic.specs.Opening.{term_at, array_at}
 use Rattle.ac_logic.specs.Absence.{IsAbsentInTerm, IsAbsentInArray}
-use Rattle.ac_logic.specs.Bounds.{IsTermClosedIn, IsArrayClosedIn}
+use Rattle.ac_logic.specs.Readable.{HasGoodNamesInTerm, HasGoodNamesInArray}
 
 pub put_after : (cs : List Change) (t a a2 : ArrayTerm) (i i2 j j2 v v2 : Term) (b : Option ArrayTerm) (k l u : Option Term) (new : Option ArrayTerm) → t ≡ PutOf a i j v → a2 ≡ a → i2 ≡ i → j2 ≡ j → v2 ≡ v → renewed a2 b ≡ array_after cs a2 → renewed i2 k ≡ term_after cs i2 → renewed j2 l ≡ term_after cs j2 → renewed v2 u ≡ term_after cs v2 → renewed (PutOf a i j v) new ≡ PutOf (renewed a b) (renewed i k) (renewed j l) (renewed v u) → renewed t new ≡ array_after cs t
 unfolding hidden term_shape term_child array_shape array_child
@@ -42,6 +42,6 @@ pub put_absent : (x : Sym) (t a a2 : ArrayTerm) (i i2 j j2 v v2 : Term) (b : Boo
 unfolding hidden term_shape term_child array_shape array_child
 put_absent x t a a2 i i2 j j2 v v2 b e p q r s ca ci cj cv = rw e (λ y. (rw p at ca, rw q at ci, rw r at cj, (rw s at cv).0 y), λ h. (rw s at cv).1 h.3)
 
-pub put_closed : (d : ℕ) (t a a2 : ArrayTerm) (i i2 j j2 v v2 : Term) (b : Bool) → t ≡ PutOf a i j v → a2 ≡ a → i2 ≡ i → j2 ≡ j → v2 ≡ v → IsArrayClosedIn d a2 → IsTermClosedIn d i2 → IsTermClosedIn d j2 → IsTrue b ↔ IsTermClosedIn d v2 → IsTrue b ↔ IsArrayClosedIn d t
+pub put_names : (t a a2 : ArrayTerm) (i i2 j j2 v v2 : Term) (b : Bool) → t ≡ PutOf a i j v → a2 ≡ a → i2 ≡ i → j2 ≡ j → v2 ≡ v → HasGoodNamesInArray a2 → HasGoodNamesInTerm i2 → HasGoodNamesInTerm j2 → IsTrue b ↔ HasGoodNamesInTerm v2 → IsTrue b ↔ HasGoodNamesInArray t
 unfolding hidden term_shape term_child array_shape array_child
-put_closed d t a a2 i i2 j j2 v v2 b e p q r s ca ci cj cv = rw e (λ y. (rw p at ca, rw q at ci, rw r at cj, (rw s at cv).0 y), λ h. (rw s at cv).1 h.3)
+put_names t a a2 i i2 j j2 v v2 b e p q r s ca ci cj cv = rw e (λ y. (rw p at ca, rw q at ci, rw r at cj, (rw s at cv).0 y), λ h. (rw s at cv).1 h.3)

@@ -60,8 +60,11 @@ is_zero (Difference s t) = false
 is_zero (Product s t) = false
 is_zero (Negative t) = false
 
+abbrev pub when : Bool → List ℕ → List ℕ
+when holds text = if holds then text else []
+
 abbrev pub in_parens : Bool → List ℕ → List ℕ
-in_parens grouped text = if grouped then codes "(" ++ text ++ codes ")" else text
+in_parens grouped text = when grouped (codes "(") ++ text ++ when grouped (codes ")")
 
 -- a second index that is the number 0 isn't written
 abbrev pub second_index : Bool → List ℕ → List ℕ
@@ -99,7 +102,7 @@ is_braced (Every f) = true
 is_braced (Labelled l f) = false
 
 abbrev pub in_braces : Bool → List ℕ → List ℕ
-in_braces braced text = if braced then codes "{ " ++ text ++ codes " }" else text
+in_braces braced text = when braced (codes "{ ") ++ text ++ when braced (codes " }")
 
 abbrev pub text_of_formula : ℕ → Formula → List ℕ
 unfolding hidden formula_shape formula_child

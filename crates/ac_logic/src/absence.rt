@@ -52,8 +52,10 @@ pub fn is_absent(symbol: &Sym, formula: &Formula) -> bool
     match formula {
         Formula::True => true,
         Formula::False => true,
-        Formula::Le(s, t) => is_absent_in_term(symbol, s.get()) && is_absent_in_term(symbol, t.get()),
-        Formula::Eq(s, t) => is_absent_in_term(symbol, s.get()) && is_absent_in_term(symbol, t.get()),
+        Formula::Le(s, t) => is_absent_in_term(symbol, s.get())
+            && is_absent_in_term(symbol, t.get()),
+        Formula::Eq(s, t) => is_absent_in_term(symbol, s.get())
+            && is_absent_in_term(symbol, t.get()),
         Formula::Not(f) => is_absent(symbol, f.get()),
         Formula::And(f, g) => is_absent(symbol, f.get()) && is_absent(symbol, g.get()),
         Formula::Or(f, g) => is_absent(symbol, f.get()) && is_absent(symbol, g.get()),

@@ -35,11 +35,16 @@ pub fn same_term(a: &Term, b: &Term) -> bool
         (Term::Sym(x), Term::Sym(y)) => same_symbol(x, y),
         (Term::Bound(k), Term::Bound(l)) => k == l,
         (Term::Read(a, i, j), Term::Read(b, k, l)) => {
-            same_array(a.get(), b.get()) && same_term(i.get(), k.get()) && same_term(j.get(), l.get())
+            same_array(a.get(), b.get())
+                && same_term(i.get(), k.get())
+                && same_term(j.get(), l.get())
         }
-        (Term::Add(s, t), Term::Add(u, v)) => same_term(s.get(), u.get()) && same_term(t.get(), v.get()),
-        (Term::Sub(s, t), Term::Sub(u, v)) => same_term(s.get(), u.get()) && same_term(t.get(), v.get()),
-        (Term::Mul(s, t), Term::Mul(u, v)) => same_term(s.get(), u.get()) && same_term(t.get(), v.get()),
+        (Term::Add(s, t), Term::Add(u, v)) => same_term(s.get(), u.get())
+            && same_term(t.get(), v.get()),
+        (Term::Sub(s, t), Term::Sub(u, v)) => same_term(s.get(), u.get())
+            && same_term(t.get(), v.get()),
+        (Term::Mul(s, t), Term::Mul(u, v)) => same_term(s.get(), u.get())
+            && same_term(t.get(), v.get()),
         (Term::Neg(s), Term::Neg(u)) => same_term(s.get(), u.get()),
         _ => false,
     }
@@ -69,12 +74,16 @@ pub fn same(a: &Formula, b: &Formula) -> bool
     match (a, b) {
         (Formula::True, Formula::True) => true,
         (Formula::False, Formula::False) => true,
-        (Formula::Le(s, t), Formula::Le(u, v)) => same_term(s.get(), u.get()) && same_term(t.get(), v.get()),
-        (Formula::Eq(s, t), Formula::Eq(u, v)) => same_term(s.get(), u.get()) && same_term(t.get(), v.get()),
+        (Formula::Le(s, t), Formula::Le(u, v)) => same_term(s.get(), u.get())
+            && same_term(t.get(), v.get()),
+        (Formula::Eq(s, t), Formula::Eq(u, v)) => same_term(s.get(), u.get())
+            && same_term(t.get(), v.get()),
         (Formula::Not(f), Formula::Not(g)) => same(f.get(), g.get()),
-        (Formula::And(f, g), Formula::And(h, i)) => same(f.get(), h.get()) && same(g.get(), i.get()),
+        (Formula::And(f, g), Formula::And(h, i)) => same(f.get(), h.get())
+            && same(g.get(), i.get()),
         (Formula::Or(f, g), Formula::Or(h, i)) => same(f.get(), h.get()) && same(g.get(), i.get()),
-        (Formula::Implies(f, g), Formula::Implies(h, i)) => same(f.get(), h.get()) && same(g.get(), i.get()),
+        (Formula::Implies(f, g), Formula::Implies(h, i)) => same(f.get(), h.get())
+            && same(g.get(), i.get()),
         (Formula::All(f), Formula::All(g)) => same(f.get(), g.get()),
         (Formula::Lab(l, f), Formula::Lab(m, g)) => l == m && same(f.get(), g.get()),
         _ => false,

@@ -30,7 +30,10 @@ fn term_size(term: &Term) -> u64
         Term::Num(_) => 1,
         Term::Sym(_) => 1,
         Term::Bound(_) => 1,
-        Term::Read(a, i, j) => above(plus(plus(array_size(a.get()), term_size(i.get())), term_size(j.get()))),
+        Term::Read(a, i, j) => above(plus(
+            plus(array_size(a.get()), term_size(i.get())),
+            term_size(j.get()),
+        )),
         Term::Add(s, t) => above(plus(term_size(s.get()), term_size(t.get()))),
         Term::Sub(s, t) => above(plus(term_size(s.get()), term_size(t.get()))),
         Term::Mul(s, t) => above(plus(term_size(s.get()), term_size(t.get()))),
@@ -45,7 +48,10 @@ fn array_size(array: &ArrayTerm) -> u64
     match array {
         ArrayTerm::Sym(_) => 1,
         ArrayTerm::Put(a, i, j, v) => {
-            let indexes = plus(plus(array_size(a.get()), term_size(i.get())), term_size(j.get()));
+            let indexes = plus(
+                plus(array_size(a.get()), term_size(i.get())),
+                term_size(j.get()),
+            );
             above(plus(indexes, term_size(v.get())))
         }
     }
@@ -77,7 +83,10 @@ fn term_depth(term: &Term) -> u64
         Term::Num(_) => 1,
         Term::Sym(_) => 1,
         Term::Bound(_) => 1,
-        Term::Read(a, i, j) => above(larger(larger(array_depth(a.get()), term_depth(i.get())), term_depth(j.get()))),
+        Term::Read(a, i, j) => above(larger(
+            larger(array_depth(a.get()), term_depth(i.get())),
+            term_depth(j.get()),
+        )),
         Term::Add(s, t) => above(larger(term_depth(s.get()), term_depth(t.get()))),
         Term::Sub(s, t) => above(larger(term_depth(s.get()), term_depth(t.get()))),
         Term::Mul(s, t) => above(larger(term_depth(s.get()), term_depth(t.get()))),
@@ -92,7 +101,10 @@ fn array_depth(array: &ArrayTerm) -> u64
     match array {
         ArrayTerm::Sym(_) => 1,
         ArrayTerm::Put(a, i, j, v) => {
-            let indexes = larger(larger(array_depth(a.get()), term_depth(i.get())), term_depth(j.get()));
+            let indexes = larger(
+                larger(array_depth(a.get()), term_depth(i.get())),
+                term_depth(j.get()),
+            );
             above(larger(indexes, term_depth(v.get())))
         }
     }

@@ -5,15 +5,19 @@ ghost use Rattle.ac_logic.specs.Opening.{array_at, bound_at, formula_at, opened,
 
 use crate::formula::{ArrayTerm, Formula, Term};
 use crate::renewal::{
-    renew, renew_add, renew_all, renew_and, renew_eq, renew_implies, renew_lab, renew_le, renew_mul, renew_neg,
-    renew_not, renew_or, renew_put, renew_read, renew_sub,
+    renew, renew_add, renew_all, renew_and, renew_eq, renew_implies, renew_lab, renew_le,
+    renew_mul, renew_neg, renew_not, renew_or, renew_put, renew_read, renew_sub,
 };
 use ac_shared::Shared;
 use std::alloc::{AllocError, Global};
 
 /// The body of an `all` with the term in place of its variable. Nodes under which the variable does not stand, nor one
 /// from further out, are shared and not made again. The time is linear in the size of the body.
-pub fn open_body(alloc: Global, body: &Shared<Formula>, term: &Shared<Term>) -> Result<Shared<Formula>, AllocError>
+pub fn open_body(
+    alloc: Global,
+    body: &Shared<Formula>,
+    term: &Shared<Term>,
+) -> Result<Shared<Formula>, AllocError>
     ensures { IfOk result (λ f. f ≡ opened term.now body.now) }
 {
     let new = formula_opened(alloc, body.get(), 0, term)?;
@@ -23,7 +27,8 @@ pub fn open_body(alloc: Global, body: &Shared<Formula>, term: &Shared<Term>) -> 
 fn formula_opened(
     alloc: Global,
     formula: &Formula,
-    depth: u64, by: &Shared<Term>,
+    depth: u64,
+    by: &Shared<Term>,
 ) -> Result<Option<Shared<Formula>>, AllocError>
     ensures { IfOk result (λ new. renewed formula.now new ≡ formula_at depth by.now formula.now) }
 {
@@ -72,7 +77,12 @@ fn formula_opened(
 }
 
 #[cycle(term_opened)]
-fn term_opened(alloc: Global, term: &Term, depth: u64, by: &Shared<Term>) -> Result<Option<Shared<Term>>, AllocError>
+fn term_opened(
+    alloc: Global,
+    term: &Term,
+    depth: u64,
+    by: &Shared<Term>,
+) -> Result<Option<Shared<Term>>, AllocError>
     ensures { IfOk result (λ new. renewed term.now new ≡ term_at depth by.now term.now) }
 {
     match term {
@@ -111,7 +121,8 @@ fn term_opened(alloc: Global, term: &Term, depth: u64, by: &Shared<Term>) -> Res
 fn array_opened(
     alloc: Global,
     array: &ArrayTerm,
-    depth: u64, by: &Shared<Term>,
+    depth: u64,
+    by: &Shared<Term>,
 ) -> Result<Option<Shared<ArrayTerm>>, AllocError>
     ensures { IfOk result (λ new. renewed array.now new ≡ array_at depth by.now array.now) }
 {
@@ -127,7 +138,12 @@ fn array_opened(
     }
 }
 
-fn bound_opened(alloc: Global, k: u32, depth: u64, by: &Shared<Term>) -> Result<Option<Shared<Term>>, AllocError>
+fn bound_opened(
+    alloc: Global,
+    k: u32,
+    depth: u64,
+    by: &Shared<Term>,
+) -> Result<Option<Shared<Term>>, AllocError>
     ensures { IfOk result (λ new. renewed (Term.Bound k) new ≡ bound_at depth by.now k) }
 {
     let place = u64::from(k);

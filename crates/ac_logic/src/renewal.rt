@@ -154,7 +154,11 @@ pub fn renew_mul(
     Ok(Some(Shared::new(alloc, Term::Mul(first, second))?))
 }
 
-pub fn renew_not(alloc: Global, inner: &Shared<Formula>, new: Option<Shared<Formula>>) -> Result<Option<Shared<Formula>>, AllocError>
+pub fn renew_not(
+    alloc: Global,
+    inner: &Shared<Formula>,
+    new: Option<Shared<Formula>>,
+) -> Result<Option<Shared<Formula>>, AllocError>
     ensures { IfOk result (λ node. renewed (Negation inner.now) node ≡ Negation (renewed inner.now new)) }
 {
     match new {
@@ -163,7 +167,11 @@ pub fn renew_not(alloc: Global, inner: &Shared<Formula>, new: Option<Shared<Form
     }
 }
 
-pub fn renew_all(alloc: Global, inner: &Shared<Formula>, new: Option<Shared<Formula>>) -> Result<Option<Shared<Formula>>, AllocError>
+pub fn renew_all(
+    alloc: Global,
+    inner: &Shared<Formula>,
+    new: Option<Shared<Formula>>,
+) -> Result<Option<Shared<Formula>>, AllocError>
     ensures { IfOk result (λ node. renewed (Every inner.now) node ≡ Every (renewed inner.now new)) }
 {
     match new {
@@ -172,7 +180,12 @@ pub fn renew_all(alloc: Global, inner: &Shared<Formula>, new: Option<Shared<Form
     }
 }
 
-pub fn renew_lab(alloc: Global, label: Label, inner: &Shared<Formula>, new: Option<Shared<Formula>>) -> Result<Option<Shared<Formula>>, AllocError>
+pub fn renew_lab(
+    alloc: Global,
+    label: Label,
+    inner: &Shared<Formula>,
+    new: Option<Shared<Formula>>,
+) -> Result<Option<Shared<Formula>>, AllocError>
     ensures { IfOk result (λ node. renewed (Labelled label inner.now) node ≡ Labelled label (renewed inner.now new)) }
 {
     match new {
@@ -181,7 +194,11 @@ pub fn renew_lab(alloc: Global, label: Label, inner: &Shared<Formula>, new: Opti
     }
 }
 
-pub fn renew_neg(alloc: Global, inner: &Shared<Term>, new: Option<Shared<Term>>) -> Result<Option<Shared<Term>>, AllocError>
+pub fn renew_neg(
+    alloc: Global,
+    inner: &Shared<Term>,
+    new: Option<Shared<Term>>,
+) -> Result<Option<Shared<Term>>, AllocError>
     ensures { IfOk result (λ node. renewed (Negative inner.now) node ≡ Negative (renewed inner.now new)) }
 {
     match new {

@@ -8,8 +8,8 @@ ghost use Rattle.ac_logic.specs.Substitution.{AreClosedChanges, array_after, arr
 use crate::equality::same_symbol;
 use crate::formula::{ArrayTerm, Change, Formula, Sym, Term};
 use crate::renewal::{
-    renew, renew_add, renew_all, renew_and, renew_eq, renew_implies, renew_lab, renew_le, renew_mul, renew_neg,
-    renew_not, renew_or, renew_put, renew_read, renew_sub,
+    renew, renew_add, renew_all, renew_and, renew_eq, renew_implies, renew_lab, renew_le,
+    renew_mul, renew_neg, renew_not, renew_or, renew_put, renew_read, renew_sub,
 };
 use ac_shared::Shared;
 use std::alloc::{AllocError, Global};
@@ -81,7 +81,11 @@ fn changed_formula(
 }
 
 #[cycle(changed_term)]
-fn changed_term(alloc: Global, term: &Term, changes: &[Change]) -> Result<Option<Shared<Term>>, AllocError>
+fn changed_term(
+    alloc: Global,
+    term: &Term,
+    changes: &[Change],
+) -> Result<Option<Shared<Term>>, AllocError>
     ensures { IfOk result (λ new. renewed term.now new ≡ term_after changes.now term.now) }
 {
     match term {
@@ -149,7 +153,10 @@ fn changed_scalar(symbol: &Sym, changes: &[Change]) -> Result<Option<Shared<Term
     Ok(None)
 }
 
-fn changed_array_symbol(symbol: &Sym, changes: &[Change]) -> Result<Option<Shared<ArrayTerm>>, AllocError>
+fn changed_array_symbol(
+    symbol: &Sym,
+    changes: &[Change],
+) -> Result<Option<Shared<ArrayTerm>>, AllocError>
     ensures { IfOk result (λ new. renewed (Array symbol.now) new ≡ array_symbol_after changes.now symbol.now) }
 {
     for change in changes {

@@ -16,3 +16,5 @@ pub mod StatementEnds
 pub mod ProgramComplete
 pub mod ProgramSound
 pub mod ProgramEnds
+pub mod Refused
+pub mod OneProgram

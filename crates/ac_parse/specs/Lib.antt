@@ -5,3 +5,6 @@ pub mod TokenFaults
 pub mod Pieces
 pub mod ReadStatement
 pub mod ReadProgram
+pub mod Limits
+pub mod ReadTokens
+pub mod Refusals

@@ -8,8 +8,11 @@
 mod condition;
 mod declaration;
 mod expression;
+mod laws;
+mod refusal;
 mod stack;
 mod statement;
 mod tokens;
 
+pub use laws::bytes_spell_at_most_one_program;
 pub use tokens::{TokenFault, tokenize, utf8_text};

@@ -4,6 +4,8 @@ use Rattle.ac_logic.specs.declared.formula.Formula.{Formula}
 use Rattle.ac_logic.specs.Readable.{IsReadable, IsReadableTerm}
 use Rattle.ac_proof.specs.declared.rule.Rule.{Rule}
 use Rattle.ac_proof.specs.declared.rule.Rule.TheVariants.{AllElim}
+use Rattle.ac_proof.specs.declared.fault.CheckFault.{CheckFault}
+use Rattle.ac_proof.specs.declared.fault.CheckFault.TheVariants.{Step, OutOfMemory}
 use Rattle.ac_proof.specs.declared.tree.ProofTree.{ProofTree, ProofTree', Row_of-ProofTree, end_of-ProofTree, more_of-ProofTree}
 use Rattle.ac_proof.specs.Rules.{IsInstance, added}
 
@@ -43,3 +45,8 @@ abbrev mutual
   IsFirstFaultBelow hs r g ps i end_of-ProofTree n path = ⊥
   IsFirstFaultBelow hs r g ps i (more_of-ProofTree t row) zero path = IsFirstFault (hs ++ added r g ps i) t path
   IsFirstFaultBelow hs r g ps i (more_of-ProofTree t row) (suc n) path = Checked (hs ++ added r g ps i) t × IsFirstFaultBelow hs r g ps (i + 1) row n path
+
+-- A fault of a step names the first in preorder, and the proof is not checked; want of memory says nothing.
+abbrev pub IsFault : List Formula → ProofTree → CheckFault → Type 0
+IsFault hs t (Step place) = IsFirstFault hs t place.path × (Checked hs t → ⊥)
+IsFault hs t OutOfMemory = Unit {0}

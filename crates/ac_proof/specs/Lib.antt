@@ -5,3 +5,4 @@ pub mod Rules
 pub mod Checked
 pub mod Soundness
 pub mod Walk
+pub mod Gathering

@@ -6,11 +6,23 @@
 //! hypotheses hold, its goal holds. Where a tree comes from does not matter: nothing here trusts whoever made it.
 #![tactic(auto, unfolding(crate::specs::Opened::formula_shape, crate::specs::Opened::formula_child, crate::specs::Opened::term_shape, crate::specs::Opened::term_child, crate::specs::Opened::array_shape, crate::specs::Opened::array_child, crate::specs::Opened::hidden))]
 
+mod arithmetic;
+mod array;
 mod certificate;
+mod check;
+mod context;
+mod fault;
+mod instance;
 mod propositional;
+mod quantifier;
 mod rule;
+mod law;
+mod linear;
 mod tree;
 
 pub use certificate::{CertPart, Certificate, ProvedCondition};
+pub use check::check_proof;
+pub use fault::CheckFault;
 pub use rule::Rule;
+pub use law::soundness;
 pub use tree::{ProofTree, StepPath};

@@ -72,6 +72,10 @@ set x e = stmt_of (stmt.Set x e)
 abbrev pub put : Word → Expr → Expr → Stmt
 put a i e = stmt_of (stmt.Put a (index.One i) e)
 
+-- a[i,j] := e;
+abbrev pub put_pair : Word → Expr → Expr → Expr → Stmt
+put_pair a i j e = stmt_of (stmt.Put a (index.Two i j) e)
+
 -- for x := lo to hi do body end
 abbrev pub for_to : Word → Expr → Expr → List Stmt → Stmt
 for_to x lo hi body = stmt_of (stmt.For x lo hi body)
@@ -126,6 +130,9 @@ start_with cells = record { cells = cells }
 
 abbrev pub cell : Word → ℤ → Cell
 cell y place = record { name = y; i = place; j = pos 0 }
+
+abbrev pub entry : Word → ℤ → ℤ → Cell
+entry y row column = record { name = y; i = row; j = column }
 
 -- var a[10]; var i; var x; begin for i := 0 to LAST do a[i] := 0; end x := a[9]; end
 abbrev pub fill : ℕ → Program
@@ -193,6 +200,24 @@ never_entered =
     program (var_array a 4 ∷ var_scalar x ∷ [])
     (for_to x (number 5) (number 3) (put a (number 0) (number 1) ∷ []) ∷ [])
 
+-- a[1] := 9;
+abbrev pub nine_is_put : List Stmt
+nine_is_put = put a (number 1) (number 9) ∷ []
+
+-- var a[4]; var i; var x; begin for i := x to END do a[1] := 9; end end
+-- The static rules refuse it where END reads a or i. A run asks for no such rule.
+abbrev pub up_to : Expr → Program
+up_to end_ =
+    program (var_array a 4 ∷ var_scalar i ∷ var_scalar x ∷ [])
+    (for_to i (get x) end_ nine_is_put ∷ [])
+
+abbrev pub from_six : Start
+from_six = start_with (four ++ held i (pos 3 ∷ []) ∷ held x (pos 6 ∷ []) ∷ [])
+
+-- the events of one turn of the loop, which leave its variable at the next number
+abbrev pub nine_and_next : ℕ → List Event
+nine_and_next next = event.Write (cell a (pos 1)) (pos 9) ∷ event.Write (scalar i) (pos next) ∷ []
+
 -- var x; begin while x < 2 do x := x + 1; end end
 abbrev pub count_up : Program
 count_up =
@@ -202,6 +227,17 @@ count_up =
 -- var a[ROWS,COLUMNS]; begin use a as covariance; end
 abbrev pub use_matrix : ℕ → ℕ → Program
 use_matrix rows columns = program (var_matrix a rows columns ∷ []) (use_as a covariance ∷ [])
+
+-- var a[1]; begin use a as covariance; end
+abbrev pub use_vector : Program
+use_vector = program (var_array a 1 ∷ []) (use_as a covariance ∷ [])
+
+-- var a[2,3]; begin a[ROW,COLUMN] := 9; end
+abbrev pub write_entry : ℕ → ℕ → Program
+write_entry row column = program (var_matrix a 2 3 ∷ []) (put_pair a (number row) (number column) (number 9) ∷ [])
+
+abbrev pub one_to_six : List ℤ
+one_to_six = pos 1 ∷ pos 2 ∷ pos 3 ∷ pos 4 ∷ pos 5 ∷ pos 6 ∷ []
 
 abbrev pub matrix : List ℤ → Start
 matrix numbers = start_with (held a numbers ∷ [])
@@ -214,10 +250,11 @@ use_constant = program (item_of k (item.Const (pos 3)) ∷ []) (use_as k covaria
 abbrev pub use_nothing : Program
 use_nothing = program (item_of k (item.Const (pos 0)) ∷ item_of a (item.VarArray (extents.One (Named k))) ∷ []) (use_as a covariance ∷ [])
 
--- var a[2]; begin a[0] := 1; a[1] := 1; use a as covariance; end
+-- var a[2]; begin a[0] := 1; MORE use a as covariance; end
 abbrev pub use_written : List Stmt → Program
 use_written more = program (var_array a 2 ∷ []) (put a (number 0) (number 1) ∷ more ++ use_as a covariance ∷ [])
 
+-- a[1] := 1;
 abbrev pub second_write : List Stmt
 second_write = put a (number 1) (number 1) ∷ []
 

@@ -33,10 +33,10 @@ straight_tokens =
 -- the program, where these are the numbers of its nodes
 abbrev straight : (program declared assigned place value : ℕ) → Program
 straight p d a i v = record {
-    node = node p 0 30;
-    items = record { node = node d 0 9; name = codes "a"; kind = item.VarArray (extents.One (extent.Lit 4)) } ∷ [];
-    body = record { node = node a 16 26; kind = stmt.Put (codes "a") (index.One (record { node = node i 18 19; kind = expr.Num 3 })) (record { node = node v 24 25; kind = expr.Num 1 }) } ∷ []
-  }
+  node = node p 0 30;
+  items = record { node = node d 0 9; name = codes "a"; kind = item.VarArray (extents.One (extent.Lit 4)) } ∷ [];
+  body = record { node = node a 16 26; kind = stmt.Put (codes "a") (index.One (record { node = node i 18 19; kind = expr.Num 3 })) (record { node = node v 24 25; kind = expr.Num 1 }) } ∷ [];
+}
 
 atom : (n : ℕ) (s : Span) → g.SpellsExpr g.Sum s (g.expression s (expr.Num n)) (literal n s ∷ [])
 atom n s = g.sum (g.term (g.factor (g.number n s)))
@@ -44,8 +44,8 @@ atom n s = g.sum (g.term (g.factor (g.number n s)))
 straight-spelled : SpellsProgram (straight 0 0 0 0 0) straight_tokens
 straight-spelled =
     g.program (from_to 10 15) (from_to 27 30)
-      (g.more (g.var_array (codes "a") (from_to 0 3) (from_to 4 5) (from_to 8 9) (g.one (from_to 5 6) (from_to 7 8) (g.fixed 4 (from_to 6 7)))) g.none)
-      (g.more (g.put (codes "a") (from_to 16 17) (from_to 21 23) (from_to 25 26) (g.one (from_to 17 18) (from_to 19 20) (atom 3 (from_to 18 19))) (atom 1 (from_to 24 25))) g.none)
+    (g.more (g.var_array (codes "a") (from_to 0 3) (from_to 4 5) (from_to 8 9) (g.one (from_to 5 6) (from_to 7 8) (g.fixed 4 (from_to 6 7)))) g.none)
+    (g.more (g.put (codes "a") (from_to 16 17) (from_to 21 23) (from_to 25 26) (g.one (from_to 17 18) (from_to 19 20) (atom 3 (from_to 18 19))) (atom 1 (from_to 24 25))) g.none)
 
 straight-numbers : numbered_program (straight 0 0 0 0 0) ≡ straight 0 1 2 3 4
 unfolding hidden expr_shape expr_child

@@ -153,11 +153,11 @@ mutual
         SpellsStmt (statement (join s e) (stmt.If c xs [])) (keyword_at keyword.If s ∷ (ts ++ keyword_at keyword.Then o ∷ (us ++ keyword_at keyword.End e ∷ [])))
     if_else : {v : Span} {c : Cond} {xs ys : List Stmt} {ts us vs : Tokens} (s o m e : Span) → SpellsCond Disjunction v c ts → SpellsBlock xs us → SpellsBlock ys vs →
         SpellsStmt (statement (join s e) (stmt.If c xs ys))
-          (keyword_at keyword.If s ∷ (ts ++ keyword_at keyword.Then o ∷ (us ++ keyword_at keyword.Else m ∷ (vs ++ keyword_at keyword.End e ∷ []))))
+        (keyword_at keyword.If s ∷ (ts ++ keyword_at keyword.Then o ∷ (us ++ keyword_at keyword.Else m ∷ (vs ++ keyword_at keyword.End e ∷ []))))
     -- | "for" name ":=" expr "to" expr "do" { stmt } "end"
     for_loop : {v w : Span} {a b : Expr} {xs : List Stmt} {ts us vs : Tokens} (x : Word) (s n o m d e : Span) → SpellsExpr Sum v a ts → SpellsExpr Sum w b us → SpellsBlock xs vs →
         SpellsStmt (statement (join s e) (stmt.For x a b xs))
-          (keyword_at keyword.For s ∷ name x n ∷ sign_at sign.Assign o ∷ (ts ++ keyword_at keyword.To m ∷ (us ++ keyword_at keyword.Do d ∷ (vs ++ keyword_at keyword.End e ∷ []))))
+        (keyword_at keyword.For s ∷ name x n ∷ sign_at sign.Assign o ∷ (ts ++ keyword_at keyword.To m ∷ (us ++ keyword_at keyword.Do d ∷ (vs ++ keyword_at keyword.End e ∷ []))))
     -- | "while" cond "do" { stmt } "end"
     while_loop : {v : Span} {c : Cond} {xs : List Stmt} {ts us : Tokens} (s o e : Span) → SpellsCond Disjunction v c ts → SpellsBlock xs us →
         SpellsStmt (statement (join s e) (stmt.While c xs)) (keyword_at keyword.While s ∷ (ts ++ keyword_at keyword.Do o ∷ (us ++ keyword_at keyword.End e ∷ [])))
@@ -195,10 +195,10 @@ pub data SpellsItem : Item → Tokens → Type 0 where
   -- | "input" name [ extents ] ":" int ".." int ";"
   input_scalar : {low high : ℤ} {ts us : Tokens} (x : Word) (s n o d e : Span) → SpellsInt low ts → SpellsInt high us →
       SpellsItem (declaration (join s e) x (item.InputScalar low high))
-        (keyword_at keyword.Input s ∷ name x n ∷ sign_at sign.Colon o ∷ (ts ++ sign_at sign.DotDot d ∷ (us ++ sign_at sign.Semicolon e ∷ [])))
+      (keyword_at keyword.Input s ∷ name x n ∷ sign_at sign.Colon o ∷ (ts ++ sign_at sign.DotDot d ∷ (us ++ sign_at sign.Semicolon e ∷ [])))
   input_array : {a : Extents} {low high : ℤ} {bs ts us : Tokens} (x : Word) (s n o d e : Span) → SpellsExtents a bs → SpellsInt low ts → SpellsInt high us →
       SpellsItem (declaration (join s e) x (item.InputArray a low high))
-        (keyword_at keyword.Input s ∷ name x n ∷ (bs ++ sign_at sign.Colon o ∷ (ts ++ sign_at sign.DotDot d ∷ (us ++ sign_at sign.Semicolon e ∷ []))))
+      (keyword_at keyword.Input s ∷ name x n ∷ (bs ++ sign_at sign.Colon o ∷ (ts ++ sign_at sign.DotDot d ∷ (us ++ sign_at sign.Semicolon e ∷ []))))
   -- | "var" name [ extents ] ";"
   var_scalar : (x : Word) (s n e : Span) →
       SpellsItem (declaration (join s e) x item.VarScalar) (keyword_at keyword.Var s ∷ name x n ∷ sign_at sign.Semicolon e ∷ [])

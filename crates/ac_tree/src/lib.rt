@@ -10,6 +10,7 @@ mod name;
 mod node;
 mod path;
 mod policy;
+mod positions;
 mod program;
 mod static_rules;
 mod token;
@@ -19,6 +20,7 @@ pub use name::Name;
 pub use node::{Node, NodeId, Span};
 pub use path::{Cut, Pair, Place, Target};
 pub use policy::PolicyName;
+pub use positions::Position;
 pub use program::{
     Cond, CondKind, Expr, ExprKind, Extent, Extents, Index, Item, ItemKind, Program, RelOp, Stmt,
     StmtKind,

@@ -21,3 +21,7 @@ returns-clause-unlisted c = fine_never (use_matrix 2 2) (matrix (pos 1 ∷ pos 2
 pub returns-clause-not_square : goal.returns-clause-not_square
 unfolding hidden expr_shape expr_child cond_shape cond_child stmt_shape stmt_child
 returns-clause-not_square c = ([], event.Hand a covariance (pos 1 ∷ pos 1 ∷ []), [], refl, ((0, omega arith, refl), inl (λ e. omega (arith, e))))
+
+pub returns-clause-vector : goal.returns-clause-vector
+unfolding hidden expr_shape expr_child cond_shape cond_child stmt_shape stmt_child
+returns-clause-vector c = ([], event.Hand a covariance (pos 1 ∷ []), [], refl, ((0, omega arith, refl), tt))

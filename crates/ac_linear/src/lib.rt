@@ -1,0 +1,21 @@
+//! Linear forms: the normal form of a term, and combinations of normal forms.
+//!
+//! A normal form is a whole number and factors of different units, where a unit is a symbol, a read or a product that
+//! is not linear. Under every valuation it has the number of the term that it comes from.
+#![tactic(auto, unfolding(crate::specs::Opened::term_shape, crate::specs::Opened::term_child, crate::specs::Opened::array_shape, crate::specs::Opened::array_child, crate::specs::Opened::hidden))]
+
+#[allow(dead_code)]
+mod entry;
+mod fault;
+#[allow(dead_code)]
+mod form;
+mod laws;
+mod linear;
+#[allow(dead_code)]
+mod place;
+#[allow(dead_code)]
+mod range;
+
+pub use fault::LinFault;
+pub use laws::{combination_law, normal_law};
+pub use linear::{Linear, Part};

@@ -1,0 +1,295 @@
+-- Reading formula text token by token, with a stack of what stands around.
+use Rattle.std.specs.Prelude.{◌≡◌, ℕ, zero, suc, ℤ, pos, List, [], ◌∷◌, Option, Some, None, Bool, true, false, Result, Ok, Err}
+use Rattle.ac_logic.specs.declared.label.Label.{Label}
+use Rattle.ac_logic.specs.declared.label.LabelKind.{LabelKind}
+use Rattle.ac_logic.specs.declared.formula.Sym.{Sym}
+use Rattle.ac_logic.specs.declared.formula.Sym.TheVariants.{Value, Init, Fresh}
+use Rattle.ac_logic.specs.declared.formula.Term.{Term, Num, Bound}
+use Rattle.ac_logic.specs.declared.formula.ArrayTerm.{ArrayTerm}
+use Rattle.ac_logic.specs.declared.formula.Formula.{Formula, True, False, Le, Eq}
+use Rattle.ac_logic.specs.declared.mark.Mark.{Mark}
+use Rattle.ac_logic.specs.declared.mark.Mark.TheVariants as mark
+use Rattle.ac_logic.specs.declared.mark.Relation.{Relation}
+use Rattle.ac_logic.specs.declared.reader.Adding.{Adding}
+use Rattle.ac_logic.specs.declared.reader.Adding.TheVariants as adding
+use Rattle.ac_logic.specs.declared.reader.Pending.{Pending}
+use Rattle.ac_logic.specs.declared.reader.Slot.{Slot}
+use Rattle.ac_logic.specs.declared.reader.Slot.TheVariants as slot
+use Rattle.ac_logic.specs.declared.reader.Before.{Before}
+use Rattle.ac_logic.specs.declared.reader.Frame.{Frame}
+use Rattle.ac_logic.specs.declared.reader.Frame.TheVariants as frame
+use Rattle.ac_logic.specs.declared.reader.State.{State}
+use Rattle.ac_logic.specs.declared.reader.State.TheVariants as state
+use Rattle.ac_logic.specs.Patterns.{Scalar, Array, ReadOf, Sum, Difference, Product, Negative, PutOf, Negation, Conjunction, Disjunction, Implication, Every, Labelled}
+use Rattle.ac_logic.specs.Opened.{hidden, formula_shape, formula_child, term_shape, term_child, array_shape, array_child}
+use Rattle.ac_logic.specs.FormulaText.{Tokens, Names, place_of, number_of, short_of, kind_of, related, Goal, Terms, Formulas, Tree}
+
+abbrev pub Stack : Type 0
+Stack = List Frame
+
+abbrev pub Machine : Type 0
+Machine = Stack × State
+
+abbrev pub if_some : {A B : Type 0} → Option A → (A → Option B) → Option B
+if_some None f = None
+if_some (Some a) f = f a
+
+-- the names of the enclosing `all`
+abbrev pub names_of : Stack → Names
+names_of [] = []
+names_of (frame.All b x ∷ k) = x ∷ names_of k
+names_of (_ ∷ k) = names_of k
+
+-- what each part makes of what comes behind it
+abbrev pub signed : Bool → Term → Term
+signed false t = t
+signed true t = Negative t
+
+abbrev pub multiplied : Option Term → Term → Term
+multiplied None t = t
+multiplied (Some s) t = Product s t
+
+abbrev pub added : Adding → Term → Term
+added adding.Nothing t = t
+added (adding.Plus s) t = Sum s t
+added (adding.Minus s) t = Difference s t
+
+abbrev pub pending : Adding → Option Term → Bool → Pending
+pending a m n = record { sum = a; product = m; minus = n }
+
+abbrev pub fresh : Pending
+fresh = pending adding.Nothing None false
+
+abbrev pub atom_read : Pending → Term → State
+atom_read p t = state.Product p.sum (multiplied p.product (signed p.minus t))
+
+abbrev pub number_read : Pending → ℤ → State
+number_read p z = state.Product p.sum (multiplied p.product (Num z))
+
+abbrev pub denied : ℕ → Formula → Formula
+denied zero f = f
+denied (suc n) f = denied n (Negation f)
+
+abbrev pub joined : Option Formula → Formula → Formula
+joined None f = f
+joined (Some g) f = Conjunction g f
+
+abbrev pub either : Option Formula → Formula → Formula
+either None f = f
+either (Some g) f = Disjunction g f
+
+abbrev pub before : Option Formula → Option Formula → ℕ → Before
+before o a n = record { or = o; and = a; nots = n }
+
+abbrev pub unbound : Before
+unbound = before None None 0
+
+abbrev pub part_read : Before → Formula → State
+part_read b f = state.Conj b.or (joined b.and (denied b.nots f))
+
+-- a brace closes
+abbrev pub closed : Stack → Formula → Option Machine
+closed (frame.Antecedent g ∷ k) f = closed k (Implication g f)
+closed (frame.Braces b ∷ k) f = Some (k, part_read b f)
+closed (frame.All b x ∷ k) f = Some (k, part_read b (Every f))
+closed (frame.Lab b l ∷ k) f = Some (k, part_read b (Labelled l f))
+closed _ f = None
+
+-- a token behind a conjunction
+abbrev pub following : Stack → Option Formula → Formula → Mark → Option Machine
+following k o f mark.And = Some (k, state.Part (before o (Some f) 0))
+following k o f mark.Or = Some (k, state.Part (before (Some (either o f)) None 0))
+following k o f mark.Implies = Some (frame.Antecedent (either o f) ∷ k, state.Part unbound)
+following k o f mark.CloseBrace = closed k (either o f)
+following k o f _ = None
+
+abbrev pub in_index : Stack → Pending → ArrayTerm → Term → Mark → Option Machine
+in_index k p a t mark.CloseBracket = Some (k, atom_read p (ReadOf a t (Num (pos 0))))
+in_index k p a t mark.Comma = Some (frame.Second p a t ∷ k, state.Factor fresh)
+in_index k p a t _ = None
+
+abbrev pub at_paren : Machine → Mark → Option Machine
+at_paren m mark.CloseParen = Some m
+at_paren m _ = None
+
+abbrev pub at_bracket : Machine → Mark → Option Machine
+at_bracket m mark.CloseBracket = Some m
+at_bracket m _ = None
+
+abbrev pub at_comma : Machine → Mark → Option Machine
+at_comma m mark.Comma = Some m
+at_comma m _ = None
+
+abbrev pub at_relation : Stack → Before → Term → Mark → Option Machine
+at_relation k b t (mark.Relation r) = Some (frame.Right b t r ∷ k, state.Factor fresh)
+at_relation k b t _ = None
+
+-- a token behind a whole term
+abbrev pub term_ends : Stack → Term → Mark → Option Machine
+term_ends (frame.Paren p ∷ k) t m = at_paren (k, atom_read p t) m
+term_ends (frame.First p a ∷ k) t m = in_index k p a t m
+term_ends (frame.Second p a i ∷ k) t m = at_bracket (k, atom_read p (ReadOf a i t)) m
+term_ends (frame.PutFirst s a ∷ k) t m = at_comma (frame.PutSecond s a t ∷ k, state.Factor fresh) m
+term_ends (frame.PutSecond s a i ∷ k) t m = at_comma (frame.PutValue s a i t ∷ k, state.Factor fresh) m
+term_ends (frame.PutValue s a i j ∷ k) t m = at_paren (k, state.Array s (PutOf a i j t)) m
+term_ends (frame.Left b ∷ k) t m = at_relation k b t m
+term_ends (frame.Right b s r ∷ k) t m = following k b.or (joined b.and (denied b.nots (related r s t))) m
+term_ends _ t m = None
+
+-- a token behind a product
+abbrev pub having : Stack → Adding → Term → Mark → Option Machine
+having k a x mark.Plus = Some (k, state.Factor (pending (adding.Plus (added a x)) None false))
+having k a x mark.Minus = Some (k, state.Factor (pending (adding.Minus (added a x)) None false))
+having k a x mark.Star = Some (k, state.Factor (pending a (Some x) false))
+having k a x m = term_ends k (added a x) m
+
+-- a token that begins an array
+abbrev pub array_begins : Stack → Slot → Mark → Option Machine
+array_begins k s (mark.Name x) = Some (k, state.Array s (Array (Value x)))
+array_begins k s mark.Init = Some (k, state.InitWord s)
+array_begins k s mark.Put = Some (k, state.PutWord s)
+array_begins k s _ = None
+
+abbrev pub at_minus : Stack → Pending → Bool → Option Machine
+at_minus k p false = Some (k, state.Factor (pending p.sum p.product true))
+at_minus k p true = None
+
+-- a token where a factor is due
+abbrev pub wanting : Stack → Pending → Mark → Option Machine
+wanting k p (mark.Literal n) = if_some (number_of p.minus n) (λ z. Some (k, number_read p z))
+wanting k p (mark.Bound x) = if_some (place_of x (names_of k)) (λ i. Some (k, atom_read p (Bound i)))
+wanting k p mark.Hash = Some (k, state.Fresh p)
+wanting k p mark.Minus = at_minus k p p.minus
+wanting k p mark.OpenParen = Some (frame.Paren p ∷ k, state.Factor fresh)
+wanting k p m = array_begins k (slot.Atom p) m
+
+abbrev pub fresh_read : Stack → Pending → Mark → Option Machine
+fresh_read k p (mark.Literal n) = if_some (short_of n) (λ i. Some (k, atom_read p (Scalar (Fresh i))))
+fresh_read k p _ = None
+
+abbrev pub at_open_paren : Machine → Mark → Option Machine
+at_open_paren m mark.OpenParen = Some m
+at_open_paren m _ = None
+
+abbrev pub at_open_brace : Machine → Mark → Option Machine
+at_open_brace m mark.OpenBrace = Some m
+at_open_brace m _ = None
+
+abbrev pub init_named : Stack → Slot → Mark → Option Machine
+init_named k s (mark.Name x) = Some (k, state.InitName s x)
+init_named k s _ = None
+
+-- the array of a `put` is read
+abbrev pub put_begins : Stack → ArrayTerm → Option Machine
+put_begins (frame.Put s ∷ k) a = Some (frame.PutFirst s a ∷ k, state.Factor fresh)
+put_begins _ a = None
+
+abbrev pub put_named : Stack → ArrayTerm → Mark → Option Machine
+put_named k a mark.Comma = put_begins k a
+put_named k a _ = None
+
+-- a symbol and nothing else is an atom
+abbrev pub symbol_ends : Stack → Pending → ArrayTerm → Mark → Option Machine
+unfolding hidden term_shape term_child array_shape array_child
+symbol_ends k p (Array s) m = having k p.sum (multiplied p.product (signed p.minus (Scalar s))) m
+symbol_ends k p (PutOf a i j v) m = None
+
+abbrev pub array_named : Stack → Pending → ArrayTerm → Mark → Option Machine
+array_named k p a mark.OpenBracket = Some (frame.First p a ∷ k, state.Factor fresh)
+array_named k p a m = symbol_ends k p a m
+
+abbrev pub array_read : Stack → Slot → ArrayTerm → Mark → Option Machine
+array_read k (slot.Atom p) a m = array_named k p a m
+array_read k slot.Put a m = put_named k a m
+
+-- a token where a part is due
+abbrev pub part_begins : Stack → Before → Mark → Option Machine
+part_begins k b mark.True = Some (k, part_read b True)
+part_begins k b mark.False = Some (k, part_read b False)
+part_begins k b mark.Not = Some (k, state.Part (before b.or b.and (suc b.nots)))
+part_begins k b mark.OpenBrace = Some (frame.Braces b ∷ k, state.Part unbound)
+part_begins k b mark.All = Some (k, state.AllWord b)
+part_begins k b mark.At = Some (k, state.AtSign b)
+part_begins k b m = wanting (frame.Left b ∷ k) fresh m
+
+abbrev pub all_named : Stack → Before → Mark → Option Machine
+all_named k b (mark.Bound x) = Some (k, state.AllName b x)
+all_named k b _ = None
+
+abbrev pub node_named : Stack → Before → LabelKind → Mark → Option Machine
+node_named k b c (mark.Literal n) = if_some (short_of n) (λ i. Some (k, state.AtLabel b (record { kind = c; node = record { 0 = i } })))
+node_named k b c _ = None
+
+abbrev pub stepped : Stack → State → Mark → Option Machine
+stepped k (state.Factor p) m = wanting k p m
+stepped k (state.Fresh p) m = fresh_read k p m
+stepped k (state.InitWord s) m = at_open_paren (k, state.InitOpen s) m
+stepped k (state.InitOpen s) m = init_named k s m
+stepped k (state.InitName s x) m = at_paren (k, state.Array s (Array (Init x))) m
+stepped k (state.PutWord s) m = at_open_paren (frame.Put s ∷ k, state.ArrayDue) m
+stepped k state.ArrayDue m = array_begins k slot.Put m
+stepped k (state.Array s a) m = array_read k s a m
+stepped k (state.Product a x) m = having k a x m
+stepped k (state.Part b) m = part_begins k b m
+stepped k (state.AllWord b) m = all_named k b m
+stepped k (state.AllName b x) m = at_open_brace (frame.All b x ∷ k, state.Part unbound) m
+stepped k (state.AtSign b) m = if_some (kind_of m) (λ c. Some (k, state.AtKind b c))
+stepped k (state.AtKind b c) m = node_named k b c m
+stepped k (state.AtLabel b l) m = at_open_brace (frame.Lab b l ∷ k, state.Part unbound) m
+stepped k (state.Conj o f) m = following k o f m
+
+-- the term, if it may end here
+abbrev pub term_so_far : State → Option Term
+unfolding hidden term_shape term_child array_shape array_child
+term_so_far (state.Product a x) = Some (added a x)
+term_so_far (state.Array (slot.Atom p) (Array s)) = Some (added p.sum (multiplied p.product (signed p.minus (Scalar s))))
+term_so_far _ = None
+
+abbrev pub ended_term : Stack → State → Option Term
+ended_term [] s = term_so_far s
+ended_term (o ∷ k) s = None
+
+abbrev pub implied : Stack → Formula → Option Formula
+implied [] f = Some f
+implied (frame.Antecedent g ∷ k) f = implied k (Implication g f)
+implied (_ ∷ k) f = None
+
+abbrev pub relation_ended : Stack → Option Term → Option Formula
+relation_ended (frame.Right b s r ∷ k) (Some t) = implied k (either b.or (joined b.and (denied b.nots (related r s t))))
+relation_ended _ _ = None
+
+abbrev pub ended_formula : Stack → State → Option Formula
+ended_formula k (state.Conj o f) = implied k (either o f)
+ended_formula k s = relation_ended k (term_so_far s)
+
+-- a step of the code: the stack afterwards and the new state, or nothing
+abbrev pub StepGives : Stack → Option State → Option Machine → Type 0
+StepGives k None m = m ≡ None
+StepGives k (Some s) m = m ≡ Some (k, s)
+
+abbrev pub ended : (g : Goal) → Stack → State → Option (Tree g)
+ended Terms k s = ended_term k s
+ended Formulas k s = ended_formula k s
+
+abbrev pub begun : Goal → State
+begun Terms = state.Factor fresh
+begun Formulas = state.Part unbound
+
+abbrev pub whole : {A : Type 0} → Option A → Result A Tokens
+whole None = Err []
+whole (Some t) = Ok t
+
+-- the tree, or the tokens from the first on at which none continues
+abbrev pub reads : (g : Goal) → Stack → State → Tokens → Result (Tree g) Tokens
+reads g k s [] = whole (ended g k s)
+reads g k s (m ∷ ms) = elim (stepped k s m) [ None ↦ Err (m ∷ ms) | Some n ↦ reads g n.0 n.1 ms ]
+
+-- where reading ends: with a machine, or before these tokens
+pub data Reached : Type 0 where
+  Through : Stack → State → Reached
+  Stuck : Tokens → Reached
+
+abbrev pub runs : Stack → State → Tokens → Reached
+runs k s [] = Through k s
+runs k s (m ∷ ms) = elim (stepped k s m) [ None ↦ Stuck (m ∷ ms) | Some n ↦ runs n.0 n.1 ms ]
+

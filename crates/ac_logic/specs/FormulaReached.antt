@@ -1,0 +1,12 @@
+-- Where a reader of formula text stands.
+use Rattle.std.specs.Prelude.{◌≡◌, List, ℕ, ◌++◌, []}
+use Rattle.ac_logic.specs.declared.reader.State.{State}
+use Rattle.ac_logic.specs.FormulaText.{Tokens, Goal}
+use Rattle.ac_logic.specs.FormulaTokens.{Cut}
+use Rattle.ac_logic.specs.FormulaMachine.{Stack, reads, begun}
+
+-- the machine stands behind tokens of the text, and what is left begins with no blank
+pub record IsReached (g : Goal) (bytes : List ℕ) (k : Stack) (s : State) (left : List ℕ) : Type 0 where
+  pub before : Tokens
+  pub cut : Cut bytes before left
+  pub leads : (more : Tokens) → reads g [] (begun g) (before ++ more) ≡ reads g k s more

@@ -1,0 +1,202 @@
+ghost use Rattle.std.specs.Prelude.{◌≡◌, ◌++◌, List, IfOk, OnOk, string_bytes, ◌+◌, ◌-◌, codes, is_ok, decimal};
+ghost use Rattle.std.specs.Fmt.{signed_decimal};
+ghost use Rattle.ac_logic.specs.Printing.{kind_text, text_of_sym, is_grouped as grouped_term, is_zero as zero_term, is_braced as braced_formula, when, text_of_term, text_of_array, text_of_formula};
+
+use crate::formula::{ArrayTerm, Formula, Sym, Term};
+use crate::label::LabelKind;
+use std::alloc::{AllocError, Global};
+
+/// The word of a kind of label.
+pub(crate) fn kind_word(kind: LabelKind) -> &'static str
+    ensures { result.now ≡ kind_text kind }
+{
+    match kind {
+        LabelKind::Range => "range",
+        LabelKind::Header => "header",
+        LabelKind::Exit => "exit",
+        LabelKind::Invariant => "invariant",
+        LabelKind::Assumed => "assumed",
+        LabelKind::Test => "test",
+        LabelKind::Denied => "denied",
+        LabelKind::Guard => "guard",
+        LabelKind::Set => "set",
+        LabelKind::Need => "use",
+        LabelKind::Entry => "entry",
+        LabelKind::Keep => "keep",
+        LabelKind::Barrier => "barrier",
+    }
+}
+
+fn write_number(out: &mut String, number: i64) -> Result<(), AllocError>
+    ensures { OnOk result (string_bytes out.new ≡ string_bytes out.old ++ signed_decimal number) }
+{
+    write!(out, "{number}")
+}
+
+pub(crate) fn write_count(out: &mut String, count: u64) -> Result<(), AllocError>
+    ensures { OnOk result (string_bytes out.new ≡ string_bytes out.old ++ decimal count) }
+{
+    write!(out, "{count}")
+}
+
+fn write_sym(out: &mut String, sym: &Sym) -> Result<(), AllocError>
+    ensures { OnOk result (string_bytes out.new ≡ string_bytes out.old ++ text_of_sym sym.now) }
+{
+    match sym {
+        Sym::Value(name) => out.push_str(name.text()),
+        Sym::Init(name) => {
+            out.push_str("init(")?;
+            out.push_str(name.text())?;
+            out.push_str(")")
+        }
+        Sym::Fresh(number) => {
+            out.push_str("#")?;
+            write_count(out, u64::from(*number))
+        }
+    }
+}
+
+/// Whether a term stands in parentheses as an operand.
+fn is_grouped(term: &Term) -> bool
+    ensures { result ≡ grouped_term term.now }
+{
+    match term {
+        Term::Num(number) => *number < 0,
+        Term::Sym(_) | Term::Bound(_) | Term::Read(_, _, _) => false,
+        Term::Add(_, _) | Term::Sub(_, _) | Term::Mul(_, _) | Term::Neg(_) => true,
+    }
+}
+
+fn is_zero(term: &Term) -> bool
+    ensures { result ≡ zero_term term.now }
+{
+    match term {
+        Term::Num(number) => *number == 0,
+        Term::Sym(_) | Term::Bound(_) | Term::Read(_, _, _) => false,
+        Term::Add(_, _) | Term::Sub(_, _) | Term::Mul(_, _) | Term::Neg(_) => false,
+    }
+}
+
+pub(crate) fn is_braced(formula: &Formula) -> bool
+    ensures { result ≡ braced_formula formula.now }
+{
+    match formula {
+        Formula::Not(_) | Formula::And(_, _) | Formula::Or(_, _) | Formula::Implies(_, _) | Formula::All(_) => true,
+        Formula::True | Formula::False | Formula::Le(_, _) | Formula::Eq(_, _) | Formula::Lab(_, _) => false,
+    }
+}
+
+fn open_operand(out: &mut String, term: &Term) -> Result<(), AllocError>
+    ensures { OnOk result (string_bytes out.new ≡ string_bytes out.old ++ when (grouped_term term.now) (codes "(")) }
+{
+    if is_grouped(term) {
+        out.push_str("(")?;
+    }
+    Ok(())
+}
+
+fn close_operand(out: &mut String, term: &Term) -> Result<(), AllocError>
+    ensures { OnOk result (string_bytes out.new ≡ string_bytes out.old ++ when (grouped_term term.now) (codes ")")) }
+{
+    if is_grouped(term) {
+        out.push_str(")")?;
+    }
+    Ok(())
+}
+
+/// Writes a sign between two operands.
+fn write_sign(out: &mut String, left: &Term, sign: &str, right: &Term) -> Result<(), AllocError>
+    ensures { OnOk result (string_bytes out.new ≡ string_bytes out.old ++ when (grouped_term left.now) (codes ")") ++ sign.now ++ when (grouped_term right.now) (codes "(")) }
+{
+    close_operand(out, left)?;
+    out.push_str(sign)?;
+    open_operand(out, right)
+}
+
+fn write_bound(out: &mut String, depth: u64, bound: u32) -> Result<(), AllocError>
+    ensures { OnOk result (string_bytes out.new ≡ string_bytes out.old ++ codes "_" ++ decimal (depth - 1 - bound)) }
+{
+    out.push_str("_")?;
+    write_count(out, depth.saturating_sub(1).saturating_sub(u64::from(bound)))
+}
+
+/// Writes a term that stands inside `depth` enclosing `all`.
+#[cycle(write)]
+pub(crate) fn write_term(out: &mut String, depth: u64, term: &Term) -> Result<(), AllocError>
+    ensures { OnOk result (string_bytes out.new ≡ string_bytes out.old ++ text_of_term depth term.now) }
+{
+    match term {
+        Term::Num(number) => write_number(out, *number),
+        Term::Sym(sym) => write_sym(out, sym),
+        Term::Bound(bound) => write_bound(out, depth, *bound),
+        Term::Read(array, first, second) => {
+            let (array, first, second) = (array.get(), first.get(), second.get());
+            write_array(out, depth, array)?;
+            out.push_str("[")?;
+            write_term(out, depth, first)?;
+            if is_zero(second) {
+                out.push_str("]")?;
+                return Ok(());
+            }
+            out.push_str(",")?;
+            write_term(out, depth, second)?;
+            out.push_str("]")?;
+            Ok(())
+        }
+        Term::Add(left, right) => {
+            let (left, right) = (left.get(), right.get());
+            open_operand(out, left)?;
+            write_term(out, depth, left)?;
+            write_sign(out, left, " + ", right)?;
+            write_term(out, depth, right)?;
+            close_operand(out, right)?;
+            Ok(())
+        }
+        Term::Sub(left, right) => {
+            let (left, right) = (left.get(), right.get());
+            open_operand(out, left)?;
+            write_term(out, depth, left)?;
+            write_sign(out, left, " - ", right)?;
+            write_term(out, depth, right)?;
+            close_operand(out, right)?;
+            Ok(())
+        }
+        Term::Mul(left, right) => {
+            let (left, right) = (left.get(), right.get());
+            open_operand(out, left)?;
+            write_term(out, depth, left)?;
+            write_sign(out, left, " * ", right)?;
+            write_term(out, depth, right)?;
+            close_operand(out, right)?;
+            Ok(())
+        }
+        Term::Neg(inner) => {
+            out.push_str("-(")?;
+            write_term(out, depth, inner.get())?;
+            out.push_str(")")
+        }
+    }
+}
+
+#[cycle(write)]
+fn write_array(out: &mut String, depth: u64, array: &ArrayTerm) -> Result<(), AllocError>
+    ensures { OnOk result (string_bytes out.new ≡ string_bytes out.old ++ text_of_array depth array.now) }
+{
+    match array {
+        ArrayTerm::Sym(sym) => write_sym(out, sym),
+        ArrayTerm::Put(inner, first, second, value) => {
+            let (inner, value) = (inner.get(), value.get());
+            let (first, second) = (first.get(), second.get());
+            out.push_str("put(")?;
+            write_array(out, depth, inner)?;
+            out.push_str(", ")?;
+            write_term(out, depth, first)?;
+            out.push_str(", ")?;
+            write_term(out, depth, second)?;
+            out.push_str(", ")?;
+            write_term(out, depth, value)?;
+            out.push_str(")")?;
+            Ok(())
+        }
+    }
+}

@@ -1,0 +1,5 @@
+use Rattle.ac_proof.proofs.Contexts.{not_negation}
+use Rattle.ac_proof.proofs.context.denied_by.Goals as goal
+
+pub returns-in_default : goal.returns-in_default
+returns-in_default c = not_negation c.args.goal.now c.args.i c.in_default.not-Not
