@@ -31,7 +31,7 @@ fn main(rt: HostRuntime) -> ExitCode {
 }
 
 /// The words behind the program's name.
-fn words<R: Env + Alloc>(rt: &R) -> io::Result<Vec<String>> {
+fn words(rt: &HostRuntime) -> io::Result<Vec<String>> {
     let mut args = env::args(rt)?;
     let _program = args.next();
     let mut words = Vec::new(rt.alloc());
