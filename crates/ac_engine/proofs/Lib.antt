@@ -1,3 +1,5 @@
 pub mod Naming
 pub mod Readings
+pub mod Reports
+pub mod Verdicts
 pub mod WordsLemmas

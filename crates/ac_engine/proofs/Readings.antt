@@ -70,17 +70,17 @@ more_items tokens items rest x n span after before next =
     let six : Tokens = keyword_at keyword.Var next.first ∷ name x next.named ∷ sign_at sign.OpenBracket next.opened ∷ literal n next.counted ∷ sign_at sign.CloseBracket next.closed ∷ sign_at sign.Semicolon next.last ∷ [] in
     let whole = join next.first next.last in
     subst (λ (s : Span). ItemsBefore tokens (items ++ array_item (1 + length items) x n s ∷ []) after) (sym next.spans)
-      (record {
-        read = before.read ++ six;
-        split = before.split ∙ ap (λ (ts : Tokens). before.read ++ ts) next.split ∙ sym (append_assoc before.read six after);
-        items_are = record {
-          tree = before.items_are.tree ++ declaration whole x (VarArray (One (Lit n))) ∷ [];
-          spelled = spells_items-snoc before.items_are.spelled (items_more (var_array x next.first next.named next.last (extents_one next.opened next.closed (fixed n next.counted))) items_none);
-          numbers = ap (λ (is : List Item). is ++ array_item (1 + length items) x n whole ∷ []) before.items_are.numbers ∙ sym (numbered_items-snoc 1 (1 + length items) before.items_are.tree _ (omega (arith, ap length before.items_are.numbers, length-numbered 1 before.items_are.tree)));
-          form = form-snoc declaration_marks declaration_of items (array_item (1 + length items) x n whole) before.read six before.items_are.form refl;
-          arrays = All-push IsArray items (array_item (1 + length items) x n whole) before.items_are.arrays refl
-        }
-      })
+    (record {
+      read = before.read ++ six;
+      split = before.split ∙ ap (λ (ts : Tokens). before.read ++ ts) next.split ∙ sym (append_assoc before.read six after);
+      items_are = record {
+        tree = before.items_are.tree ++ declaration whole x (VarArray (One (Lit n))) ∷ [];
+        spelled = spells_items-snoc before.items_are.spelled (items_more (var_array x next.first next.named next.last (extents_one next.opened next.closed (fixed n next.counted))) items_none);
+        numbers = ap (λ (is : List Item). is ++ array_item (1 + length items) x n whole ∷ []) before.items_are.numbers ∙ sym (numbered_items-snoc 1 (1 + length items) before.items_are.tree _ (omega (arith, ap length before.items_are.numbers, length-numbered 1 before.items_are.tree)));
+        form = form-snoc declaration_marks declaration_of items (array_item (1 + length items) x n whole) before.read six before.items_are.form refl;
+        arrays = All-push IsArray items (array_item (1 + length items) x n whole) before.items_are.arrays refl;
+      };
+    })
 
 pub list_nodes-snoc : (xs : List Stmt) (st : Stmt) → list_nodes (xs ++ st ∷ []) ≡ list_nodes xs + stmt_nodes st.kind
 list_nodes-snoc [] st = omega arith
@@ -135,19 +135,19 @@ more_body first tokens body rest x i v span indexed valued after before next =
     let tree = before.body_is.tree in
     let st = bare_put x i v whole indexed valued in
     subst (λ (s : Span). BodyBefore first tokens (body ++ put_stmt k x i v s indexed valued ∷ []) after) (sym next.spans)
-      (record {
-        read = before.read ++ seven;
-        split = before.split ∙ ap (λ (ts : Tokens). before.read ++ ts) next.split ∙ sym (append_assoc before.read seven after);
-        body_is = record {
-          tree = tree ++ st ∷ [];
-          spelled = spells_block-snoc before.body_is.spelled (block_more (put x next.first next.assigned next.last (index_one next.opened next.closed (literal_spells i indexed)) (literal_spells v valued)) block_none);
-          numbers = ap (λ (xs : List Stmt). xs ++ put_stmt k x i v whole indexed valued ∷ []) before.body_is.numbers
+    (record {
+      read = before.read ++ seven;
+      split = before.split ∙ ap (λ (ts : Tokens). before.read ++ ts) next.split ∙ sym (append_assoc before.read seven after);
+      body_is = record {
+        tree = tree ++ st ∷ [];
+        spelled = spells_block-snoc before.body_is.spelled (block_more (put x next.first next.assigned next.last (index_one next.opened next.closed (literal_spells i indexed)) (literal_spells v valued)) block_none);
+        numbers = ap (λ (xs : List Stmt). xs ++ put_stmt k x i v whole indexed valued ∷ []) before.body_is.numbers
             ∙ sym (numbered_list-snoc first k tree st (omega (arith, before.body_is.nodes)) ∙ ap (λ (z : Stmt). numbered_list first tree ++ z ∷ []) (put_numbered k x i v whole indexed valued));
-          nodes = omega (arith, list_nodes-snoc tree st, put_nodes x i v whole indexed valued, before.body_is.nodes, length-append body (put_stmt k x i v whole indexed valued ∷ []));
-          form = form-snoc assignment_marks assignment_of body (put_stmt k x i v whole indexed valued) before.read seven before.body_is.form (ap assignment_marks (sym (put_form k x i v whole indexed valued)));
-          puts = All-push IsPut body (put_stmt k x i v whole indexed valued) before.body_is.puts (put_is k x i v whole indexed valued)
-        }
-      })
+        nodes = omega (arith, list_nodes-snoc tree st, put_nodes x i v whole indexed valued, before.body_is.nodes, length-append body (put_stmt k x i v whole indexed valued ∷ []));
+        form = form-snoc assignment_marks assignment_of body (put_stmt k x i v whole indexed valued) before.read seven before.body_is.form (ap assignment_marks (sym (put_form k x i v whole indexed valued)));
+        puts = All-push IsPut body (put_stmt k x i v whole indexed valued) before.body_is.puts (put_is k x i v whole indexed valued);
+      };
+    })
 
 -- what stands in front of `begin` is not a declaration
 pub begins_no_declaration : (more : List Mark) → NoDeclaration (Keyword keyword.Begin ∷ more)
@@ -242,7 +242,7 @@ pub pushed_items : (tokens : Tokens) (items : List Item) (rest : Tokens) (x : Wo
     ItemsBefore tokens items rest → BeginsWithDeclaration rest x n span after → k ≡ 1 + length items → d ≡ array_item k x n span → pushed ≡ items ++ d ∷ [] → ItemsBefore tokens pushed after
 pushed_items tokens items rest x n span after k d pushed before next e made is =
     let same : items ++ array_item (1 + length items) x n span ∷ [] ≡ pushed =
-      sym (is ∙ ap (λ (y : Item). items ++ y ∷ []) (made ∙ ap (λ (j : ℕ). array_item j x n span) e)) in
+    sym (is ∙ ap (λ (y : Item). items ++ y ∷ []) (made ∙ ap (λ (j : ℕ). array_item j x n span) e)) in
     subst (λ (ds : List Item). ItemsBefore tokens ds after) same (more_items tokens items rest x n span after before next)
 
 pub pushed_statement : (first : ℕ) (tokens : Tokens) (body : List Stmt) (rest : Tokens) (x : Word) (i v : ℕ) (span indexed valued : Span) (after : Tokens) (k : ℕ) (st : Stmt) (pushed : List Stmt) →
@@ -250,7 +250,7 @@ pub pushed_statement : (first : ℕ) (tokens : Tokens) (body : List Stmt) (rest 
     st ≡ put_stmt k x i v span indexed valued → pushed ≡ body ++ st ∷ [] → BodyBefore first tokens pushed after
 pushed_statement first tokens body rest x i v span indexed valued after k st pushed before next e made is =
     let same : body ++ put_stmt (first + 3 * length body) x i v span indexed valued ∷ [] ≡ pushed =
-      sym (is ∙ ap (λ (y : Stmt). body ++ y ∷ []) (made ∙ ap (λ (j : ℕ). put_stmt j x i v span indexed valued) e)) in
+    sym (is ∙ ap (λ (y : Stmt). body ++ y ∷ []) (made ∙ ap (λ (j : ℕ). put_stmt j x i v span indexed valued) e)) in
     subst (λ (xs : List Stmt). BodyBefore first tokens xs after) same (more_body first tokens body rest x i v span indexed valued after before next)
 
 -- whatever straight program the tokens are of, its declarations are those that were read
@@ -334,9 +334,9 @@ is_read tokens items rest b left first body behind l more head node all begins r
     let xs = read.before.body_is in
     let last : behind ≡ keyword_at keyword.End l ∷ [] = ends ∙ ap (λ (ts : Tokens). keyword_at keyword.End l ∷ ts) (empty more done) in
     let shape : tokens ≡ all.before.read ++ keyword_at keyword.Begin b ∷ (read.before.read ++ keyword_at keyword.End l ∷ []) =
-      all.before.split ∙ ap (λ (ts : Tokens). all.before.read ++ ts) (begins ∙ ap (λ (ts : Tokens). keyword_at keyword.Begin b ∷ ts) (read.before.split ∙ ap (λ (ts : Tokens). read.before.read ++ ts) last)) in
+    all.before.split ∙ ap (λ (ts : Tokens). all.before.read ++ ts) (begins ∙ ap (λ (ts : Tokens). keyword_at keyword.Begin b ∷ ts) (read.before.split ∙ ap (λ (ts : Tokens). read.before.read ++ ts) last)) in
     let first_is : head.span ≡ first_span all.before.read b =
-      ap (λ (t : Token). t.span) (heads ∙ ap (λ (ts : Tokens). get_or ts 0 head) shape) ∙ head_span all.before.read _ (keyword_at keyword.Begin b) head in
+    ap (λ (t : Token). t.span) (heads ∙ ap (λ (ts : Tokens). get_or ts 0 head) shape) ∙ head_span all.before.read _ (keyword_at keyword.Begin b) head in
     let tree : Program = record { node = Grammar.node (join (first_span all.before.read b) l); items = ds.tree; body = xs.tree } in
     let counted : first ≡ 1 + length ds.tree = omega (arith, ap length ds.numbers, length-numbered 1 ds.tree) in
     record {
@@ -344,9 +344,9 @@ is_read tokens items rest b left first body behind l more head node all begins r
       spelled = subst (λ (ts : Tokens). Grammar.SpellsProgram tree ts) (sym shape) (program b l ds.spelled xs.spelled);
       numbers = same_program _ _ _ _ _ _ (made ∙ ap (λ (s : Span). node_at 0 (join s l)) first_is) ds.numbers (xs.numbers ∙ ap (λ (i : ℕ). numbered_list i xs.tree) counted);
       form = items_form tokens items rest all.before ∙ ap (λ (ms : List Mark). flat_map declaration_marks (map declaration_of items) ++ ms)
-        (ap marks begins ∙ ap (λ (ms : List Mark). Keyword keyword.Begin ∷ ms) (body_form first left body behind read.before ∙ ap (λ (ms : List Mark). flat_map assignment_marks (map assignment_of body) ++ ms) (ap marks last)));
+          (ap marks begins ∙ ap (λ (ms : List Mark). Keyword keyword.Begin ∷ ms) (body_form first left body behind read.before ∙ ap (λ (ms : List Mark). flat_map assignment_marks (map assignment_of body) ++ ms) (ap marks last)));
       straight_ = record { arrays = ds.arrays; puts = xs.puts };
-      limits = record { assignments = omega (arith, read.few, length-mapped assignment_of body); nodes = omega (arith, length-mapped declaration_of items, length-mapped assignment_of body) }
+      limits = record { assignments = omega (arith, read.few, length-mapped assignment_of body); nodes = omega (arith, length-mapped declaration_of items, length-mapped assignment_of body) };
     }
 
 pub still_few : {A : Type 0} (xs pushed : List A) (x : A) (most : ℕ) → pushed ≡ xs ++ x ∷ [] → length xs ≤ most → (length xs ≡ most → ⊥) → length pushed ≤ most

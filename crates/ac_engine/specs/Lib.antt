@@ -1,4 +1,7 @@
+pub mod Building
+pub mod Causes
 pub mod Form
+pub mod Headline
 pub mod Names
 pub mod Opened
 pub mod Policy

@@ -3,19 +3,25 @@ use Rattle.std.specs.Prelude.{ℕ, List, [], ◌∷◌, ◌++◌, length, map, c
 use Rattle.std.specs.List.{flat_map}
 use Rattle.std.specs.Fmt.{decimal}
 use Rattle.ac_tree.specs.declared.node.Node.{Node}
+use Rattle.ac_engine.specs.declared.outcome.Outcome.{Outcome}
+use Rattle.ac_engine.specs.declared.outcome.Outcome.TheVariants.{Accepted, Rejected, Usage, Program, Policy, ReadFault}
+use Rattle.ac_engine.specs.declared.status.Status.{Status}
+use Rattle.ac_engine.specs.declared.status.Status.TheVariants as status
 
--- how a call ended
-pub data Outcome : Type 0 where
-  Accepted : (conditions : ℕ) → Outcome
-  -- `unproved` has the nodes of the writes whose condition is unproved
-  Rejected : (conditions : ℕ) (unproved : List Node) → Outcome
-  Usage Program Policy ReadFault : Outcome
+abbrev pub status_of : Outcome → Status
+status_of (Accepted k) = status.Accepted
+status_of (Rejected k unproved) = status.Rejected
+status_of Usage = status.Usage
+status_of Program = status.Program
+status_of Policy = status.Policy
+status_of ReadFault = status.ReadFault
 
+-- the line of an unproved condition, that of the write at this node
 abbrev pub unproved_line : Node → List ℕ
 unproved_line n =
     codes "unproved bounds start -> site " ++ (decimal n.id.0 ++ (codes " at " ++ (decimal n.span.start ++ (codes ".." ++ decimal n.span.end))))
 
-abbrev pub lines_of : Outcome → List (List ℕ)
+unfoldable pub lines_of : Outcome → List (List ℕ)
 lines_of (Accepted k) =
     codes "accepted" ∷
     (codes "bounds: " ++ (decimal k ++ codes " conditions proved")) ∷
@@ -35,5 +41,5 @@ lines_of ReadFault = codes "read fault" ∷ []
 abbrev pub line : List ℕ → List ℕ
 line text = text ++ 10 ∷ []
 
-abbrev pub report : Outcome → List ℕ
+unfoldable pub report : Outcome → List ℕ
 report o = flat_map line (lines_of o)

@@ -6,7 +6,9 @@ ghost use Rattle.ac_engine.specs.Reading.{extent_of, assigned_by, straight_of, I
 ghost use Rattle.ac_engine.specs.Sites.{unproved};
 ghost use Rattle.ac_engine.specs.Names.{AreDeclared, AreNamed, entries_of, outside};
 
-use ac_tree::{ExprKind, Extent, Extents, Index, Item, ItemKind, Name, Node, Program, Stmt, StmtKind};
+use ac_tree::{
+    ExprKind, Extent, Extents, Index, Item, ItemKind, Name, Node, Program, Stmt, StmtKind,
+};
 use indexmap::IndexMap;
 use std::alloc::{AllocError, Global};
 

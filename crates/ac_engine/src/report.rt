@@ -1,53 +1,55 @@
 //! The texts of the reports.
 
-ghost use Rattle.std.specs.Prelude.{◌≡◌, ◌++◌, IfOk, OnOk, string_bytes};
-ghost use Rattle.ac_engine.specs.Report.{Accepted, Rejected, Usage, Program, Policy, ReadFault, report, line, unproved_line};
+ghost use Rattle.std.specs.Prelude.{◌≡◌, ◌++◌, IfOk, OnOk, string_bytes, List};
+ghost use Rattle.ac_engine.specs.declared.outcome.Outcome.TheVariants.{Accepted, Rejected};
+ghost use Rattle.ac_engine.specs.Report.{report, line, unproved_line};
 
+use crate::outcome::Outcome;
 use ac_tree::Node;
 use std::alloc::{AllocError, Global};
 use std::fmt::Write;
 
-pub(crate) fn usage() -> &'static str
-    ensures { result.now ≡ report Usage }
-{
-    "usage: certify PROGRAM POLICY CERT [--argument FILE] [--explain] | check PROGRAM POLICY CERT | show PROGRAM POLICY | make N\n"
-}
+/// The usage line.
+const USAGE: &str =
+    "usage: certify PROGRAM POLICY CERT [--argument FILE] [--explain] | check PROGRAM POLICY CERT | show PROGRAM POLICY | make N\n";
 
-pub(crate) fn program_not_built() -> &'static str
-    ensures { result.now ≡ report Program }
+/// The whole report of an outcome.
+#[tactic(auto, unfolding(crate::specs::Report::report, crate::specs::Report::lines_of))]
+pub(crate) fn report(alloc: Global, outcome: &Outcome) -> Result<String, AllocError>
+    ensures { IfOk result (λ text. string_bytes text ≡ report outcome.now) }
 {
-    "program: not built\n"
-}
-
-pub(crate) fn policy_not_built() -> &'static str
-    ensures { result.now ≡ report Policy }
-{
-    "policy: not built\n"
-}
-
-pub(crate) fn read_fault() -> &'static str
-    ensures { result.now ≡ report ReadFault }
-{
-    "read fault\n"
+    match outcome {
+        Outcome::Accepted { conditions } => accepted(alloc, *conditions),
+        Outcome::Rejected {
+            conditions,
+            unproved,
+        } => rejected(alloc, *conditions, unproved.as_slice()),
+        Outcome::Usage => String::from_str(alloc, USAGE),
+        Outcome::Program => String::from_str(alloc, "program: not built\n"),
+        Outcome::Policy => String::from_str(alloc, "policy: not built\n"),
+        Outcome::ReadFault => String::from_str(alloc, "read fault\n"),
+    }
 }
 
 /// The report of a program all of whose conditions are proved.
-pub(crate) fn accepted(alloc: Global, conditions: usize) -> Result<String, AllocError>
+#[tactic(auto, unfolding(crate::specs::Report::report, crate::specs::Report::lines_of))]
+fn accepted(alloc: Global, conditions: usize) -> Result<String, AllocError>
     ensures { IfOk result (λ text. string_bytes text ≡ report (Accepted conditions)) }
 {
-    format!(in alloc; "accepted\nbounds: {conditions} conditions proved\nassumption: inputs lie in their declared ranges\nassumption: whole numbers have no bound\n")
+    format!(in alloc;
+        "accepted\nbounds: {conditions} conditions proved\nassumption: inputs lie in their declared ranges\nassumption: whole numbers have no bound\n"
+    )
 }
 
 /// The report of a program with unproved conditions, those of the writes at these nodes.
-pub(crate) fn rejected(
-    alloc: Global,
-    conditions: usize,
-    unproved: &[Node],
-) -> Result<String, AllocError>
+#[tactic(auto, unfolding(crate::specs::Report::report, crate::specs::Report::lines_of))]
+fn rejected(alloc: Global, conditions: usize, unproved: &[Node]) -> Result<String, AllocError>
     ensures { IfOk result (λ text. string_bytes text ≡ report (Rejected conditions unproved.now)) }
 {
     let count = unproved.len();
-    let mut text = format!(in alloc; "rejected\nbounds: {count} of {conditions} conditions unproved\n")?;
+    let mut text = format!(in alloc;
+        "rejected\nbounds: {count} of {conditions} conditions unproved\n"
+    )?;
     for node in unproved {
         push_unproved(&mut text, *node)?;
     }
@@ -60,5 +62,8 @@ fn push_unproved(text: &mut String, node: Node) -> Result<(), AllocError>
     let site = node.id.0;
     let start = node.span.start;
     let end = node.span.end;
-    write!(text, "unproved bounds start -> site {site} at {start}..{end}\n")
+    write!(
+        text,
+        "unproved bounds start -> site {site} at {start}..{end}\n"
+    )
 }

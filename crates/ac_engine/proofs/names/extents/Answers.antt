@@ -9,4 +9,4 @@ returns-then-is_some c =
 pub loop-item-preserved : goal.loop-item-preserved
 loop-item-preserved c =
     entered _ _ c.item-item.result c.loop-item.table.entries c.in_ok-name.name _ _ _ (omega arith) c.item-item.is c.loop-item.invariant.0 c.loop-item.invariant.1 c.in_ok-name.ensures.cases
-      c.extent-extent.ensures c.if-extent-eq0.false c.in_ok-insert.ensures.old (sym c.is_some.ensures ∙ c.if-is_some.false) c.in_ok-insert.ensures.entries
+    c.extent-extent.ensures c.if-extent-eq0.false c.in_ok-insert.ensures.old (sym c.is_some.ensures ∙ c.if-is_some.false) c.in_ok-insert.ensures.entries
