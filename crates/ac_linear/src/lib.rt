@@ -4,6 +4,7 @@
 //! is not linear. Under every valuation it has the number of the term that it comes from.
 #![tactic(auto, unfolding(crate::specs::Opened::term_shape, crate::specs::Opened::term_child, crate::specs::Opened::array_shape, crate::specs::Opened::array_child, crate::specs::Opened::hidden))]
 
+mod combination;
 #[allow(dead_code)]
 mod entry;
 mod fault;
@@ -16,6 +17,7 @@ mod place;
 #[allow(dead_code)]
 mod range;
 
+pub use combination::combine;
 pub use fault::LinFault;
 pub use laws::{combination_law, normal_law};
 pub use linear::{Linear, Part};
