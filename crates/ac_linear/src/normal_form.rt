@@ -33,3 +33,61 @@ fn normal_or_none(alloc: Global, term: &Term) -> Result<Option<Linear>, AllocErr
     let linear = linear_of(alloc, form)?;
     Ok(Some(linear))
 }
+
+#[cfg(test)]
+mod tests {
+    use super::*;
+    use crate::combination::combine;
+    use ac_logic::{Sym, print_term};
+    use ac_shared::Shared;
+    use ac_tree::Name;
+    use std::test::Fail;
+
+    fn number(alloc: Global, n: i64) -> Result<Shared<Term>, AllocError> {
+        Shared::new(alloc, Term::Num(n))
+    }
+
+    fn variable(alloc: Global, name: &str) -> Result<Shared<Term>, AllocError> {
+        let name = Name::new(alloc, name)?;
+        Shared::new(alloc, Term::Sym(Sym::Value(name)))
+    }
+
+    #[test]
+    fn a_unit_that_stands_twice_is_one_part(rt: HostRuntime) -> Result<(), Fail> {
+        let alloc = rt.alloc();
+        let twice = Shared::new(alloc, Term::Mul(number(alloc, 2)?, variable(alloc, "x")?))?;
+        let rest = Shared::new(alloc, Term::Sub(number(alloc, 3)?, variable(alloc, "x")?))?;
+        let form = normal(alloc, &Term::Add(twice, rest))?;
+        assert_eq!(rt; form.constant, 3);
+        assert_eq!(rt; form.parts.len(), 1);
+        for part in form.parts.as_slice() {
+            assert_eq!(rt; part.factor, 1);
+            let text = print_term(alloc, part.unit.get())?;
+            assert_eq!(rt; text.as_str(), "x");
+        }
+        Ok(())
+    }
+
+    #[test]
+    fn a_constant_beyond_the_range_is_too_wide(rt: HostRuntime) -> Result<(), Fail> {
+        let alloc = rt.alloc();
+        let within = Term::Mul(number(alloc, 4000000)?, number(alloc, 1000000000000)?);
+        let form = normal(alloc, &within)?;
+        assert_eq!(rt; form.constant, 4000000000000000000);
+        assert!(rt; form.parts.is_empty());
+        let beyond = Term::Mul(number(alloc, 1000000000000)?, number(alloc, 5000000)?);
+        assert!(rt; matches!(normal(alloc, &beyond), Err(LinFault::Wide)));
+        Ok(())
+    }
+
+    #[test]
+    fn contradicting_facts_leave_a_constant(rt: HostRuntime) -> Result<(), Fail> {
+        let alloc = rt.alloc();
+        let below = normal(alloc, &Term::Sub(variable(alloc, "x")?, number(alloc, 5)?))?;
+        let above = normal(alloc, &Term::Sub(number(alloc, 6)?, variable(alloc, "x")?))?;
+        let sum = combine(alloc, &[below, above], &[1, 1])?;
+        assert_eq!(rt; sum.constant, 1);
+        assert!(rt; sum.parts.is_empty());
+        Ok(())
+    }
+}

@@ -48,7 +48,11 @@ fn term_of_entry(alloc: Global, entry: &Entry) -> Result<Option<Shared<Term>>, A
     Ok(Some(term))
 }
 
-fn sum_of(alloc: Global, first: Shared<Term>, rest: &[Entry]) -> Result<Option<Shared<Term>>, AllocError>
+fn sum_of(
+    alloc: Global,
+    first: Shared<Term>,
+    rest: &[Entry],
+) -> Result<Option<Shared<Term>>, AllocError>
     ensures { IfOk result (λ term. term ≡ sum_of first rest.now) }
 {
     let mut sum = first;
@@ -61,7 +65,11 @@ fn sum_of(alloc: Global, first: Shared<Term>, rest: &[Entry]) -> Result<Option<S
     Ok(Some(sum))
 }
 
-fn with_constant(alloc: Global, term: Shared<Term>, n: i128) -> Result<Option<Shared<Term>>, AllocError>
+fn with_constant(
+    alloc: Global,
+    term: Shared<Term>,
+    n: i128,
+) -> Result<Option<Shared<Term>>, AllocError>
     ensures { IfOk result (λ sum. sum ≡ with_constant term n) }
 {
     if n == 0 {
