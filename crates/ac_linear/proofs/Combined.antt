@@ -29,13 +29,13 @@ module _ (w : Valuation) (e : List ℤ) where
   combined_value x (l ∷ ls) (k ∷ ks) =
       let P : Form → Type 0 = (λ z. form_value w e z ≡ form_value w e x +ℤ ((pos k *ℤ linear_value w e l) +ℤ weighted w e ls ks)) in
       then_some (plus Machine x (pos k) (form_of_linear l)) (λ y. combined_with y ls ks) P (λ y h.
-        let a : form_value w e y ≡ form_value w e x +ℤ (pos k *ℤ form_value w e (form_of_linear l)) = said (plus Machine x (pos k) (form_of_linear l)) y _ h (plus_value w e Machine x (pos k) (form_of_linear l)) in
-        weaker (combined_with y ls ks) _ P (λ z c. next_sum _ _ (pos k) _ _ _ _ a (ap (λ u. pos k *ℤ u) (same_form l)) c) (combined_value y ls ks))
+      let a : form_value w e y ≡ form_value w e x +ℤ (pos k *ℤ form_value w e (form_of_linear l)) = said (plus Machine x (pos k) (form_of_linear l)) y _ h (plus_value w e Machine x (pos k) (form_of_linear l)) in
+      weaker (combined_with y ls ks) _ P (λ z c. next_sum _ _ (pos k) _ _ _ _ a (ap (λ u. pos k *ℤ u) (same_form l)) c) (combined_value y ls ks))
 
   pub combination_value : (ls : List Linear) (ks : List ℕ) → IfSome (combination_of ls ks) (λ l. linear_value w e l ≡ weighted w e ls ks)
   combination_value ls ks =
       map_some (combined_with (number_form (pos 0)) ls ks) linear_of (λ l. linear_value w e l ≡ weighted w e ls ks) (λ z h.
-        linear_form w e z ∙ (let a : form_value w e z ≡ form_value w e (number_form (pos 0)) +ℤ weighted w e ls ks = said (combined_with (number_form (pos 0)) ls ks) z _ h (combined_value (number_form (pos 0)) ls ks) in omega (arith, ints, a)))
+      linear_form w e z ∙ (let a : form_value w e z ≡ form_value w e (number_form (pos 0)) +ℤ weighted w e ls ks = said (combined_with (number_form (pos 0)) ls ks) z _ h (combined_value (number_form (pos 0)) ls ks) in omega (arith, ints, a)))
 
 -- the laws at an answer
 pub combination_has_value : (w : Valuation) (e : List ℤ) (ls : List Linear) (ks : List ℕ) (l : Linear) → combination_of ls ks ≡ Some l → linear_value w e l ≡ weighted w e ls ks

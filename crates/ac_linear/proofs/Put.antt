@@ -35,9 +35,10 @@ place_shifted n p (q ∷ qs) =
     let on : place_from (suc n) p qs ≡ shifted n (next (place p qs)) = place_shifted (suc n) p qs ∙ shifted-next n (place p qs) in
     let here : n ≡ n + 0 = omega arith in
     elim (side p q) as (λ o. by_side o (Before n) (At n) (place_from (suc n) p qs) ≡ shifted n (by_side o (Before 0) (At 0) (next (place p qs)))) [
-      on_side.Before ↦ ap Before here
-    | on_side.Same ↦ ap At here
-    | on_side.Behind ↦ on ]
+      | on_side.Before ↦ ap Before here
+      | on_side.Same ↦ ap At here
+      | on_side.Behind ↦ on
+    ]
 
 replaced_next : (q p : Entry) (qs : List Entry) (i : ℕ) (f : ℤ) → replaced (q ∷ qs) (suc i) p f ≡ q ∷ replaced qs i p f
 replaced_next q p qs i f = elim (int_eq f (pos 0)) as (λ b. (if b then remove (q ∷ qs) (suc i) else slice_set (q ∷ qs) (suc i) (record p { factor = f })) ≡ q ∷ (if b then remove qs i else slice_set qs i (record p { factor = f }))) [ true ↦ refl | false ↦ refl ]
@@ -62,9 +63,10 @@ put_place r p [] = refl
 put_place r p (q ∷ qs) =
     let behind : option_map (λ rest. q ∷ rest) (put_in r p qs) ≡ put_on r p (q ∷ qs) (next (place p qs)) = ap (option_map (λ rest. q ∷ rest)) (put_place r p qs) ∙ sym (put_next r p q qs (place p qs)) in
     elim (side p q) as (λ o. by_side o (Some (p ∷ q ∷ qs)) (option_map (with_factor q qs) (within r (q.factor +ℤ p.factor))) (option_map (λ rest. q ∷ rest) (put_in r p qs)) ≡ put_on r p (q ∷ qs) (by_side o (Before 0) (At 0) (next (place p qs)))) [
-      on_side.Before ↦ refl
-    | on_side.Same ↦ mapped_same (with_factor q qs) (replaced (q ∷ qs) 0 q) (joined_here q qs) (within r (q.factor +ℤ p.factor))
-    | on_side.Behind ↦ behind ]
+      | on_side.Before ↦ refl
+      | on_side.Same ↦ mapped_same (with_factor q qs) (replaced (q ∷ qs) 0 q) (joined_here q qs) (within r (q.factor +ℤ p.factor))
+      | on_side.Behind ↦ behind
+    ]
 
 pub put_by_index : (r : Range) (p : Entry) (qs : List Entry) → put_in r p qs ≡ put_on r p qs (place_from 0 p qs)
 put_by_index r p qs = put_place r p qs ∙ ap (put_on r p qs) (sym (place_shifted 0 p qs ∙ unshifted (place p qs)))

@@ -15,5 +15,6 @@ fits Machine n h = grind (arith, ints)
 pub too_wide : (r : Range) (n : ℤ) → (FitsSigned w128 n → ⊥) → within r n ≡ None
 too_wide r n h =
     elim (is_in r n) as (λ b. is_in r n ≡ b → (if b then Some n else None) ≡ None) [
-      true ↦ λ i. absurd (h (fits r n i))
-    | false ↦ λ i. refl ] refl
+      | true ↦ λ i. absurd (h (fits r n i))
+      | false ↦ λ i. refl
+    ] refl

@@ -24,10 +24,10 @@ same_difference x y z c h = omega (arith, ints, h)
 pub add_mul : (a b c : ℤ) → (a +ℤ b) *ℤ c ≡ (a *ℤ c) +ℤ (b *ℤ c)
 add_mul a b c =
     ℤ_ind (λ x. (x +ℤ b) *ℤ c ≡ (x *ℤ c) +ℤ (b *ℤ c))
-      (ap (λ x. x *ℤ c) (+ℤ_idl b) ∙ sym (ap (λ x. x +ℤ (b *ℤ c)) (zero-*ℤ c) ∙ +ℤ_idl (b *ℤ c)))
-      (λ n h. ap (λ x. x *ℤ c) (up_past (pos n) b) ∙ (up_mul (pos n +ℤ b) c ∙ (same_sum _ _ _ c h ∙ ap (λ x. x +ℤ (b *ℤ c)) (sym (up_mul (pos n) c)))))
-      (λ n h. ap (λ x. x *ℤ c) (down_past (neg_ℤ (pos n)) b) ∙ (down_mul (neg_ℤ (pos n) +ℤ b) c ∙ (same_difference _ _ _ c h ∙ ap (λ x. x +ℤ (b *ℤ c)) (sym (down_mul (neg_ℤ (pos n)) c)))))
-      a
+    (ap (λ x. x *ℤ c) (+ℤ_idl b) ∙ sym (ap (λ x. x +ℤ (b *ℤ c)) (zero-*ℤ c) ∙ +ℤ_idl (b *ℤ c)))
+    (λ n h. ap (λ x. x *ℤ c) (up_past (pos n) b) ∙ (up_mul (pos n +ℤ b) c ∙ (same_sum _ _ _ c h ∙ ap (λ x. x +ℤ (b *ℤ c)) (sym (up_mul (pos n) c)))))
+    (λ n h. ap (λ x. x *ℤ c) (down_past (neg_ℤ (pos n)) b) ∙ (down_mul (neg_ℤ (pos n) +ℤ b) c ∙ (same_difference _ _ _ c h ∙ ap (λ x. x +ℤ (b *ℤ c)) (sym (down_mul (neg_ℤ (pos n)) c)))))
+    a
 
 pub neg_mul : (a c : ℤ) → (neg_ℤ a) *ℤ c ≡ neg_ℤ (a *ℤ c)
 neg_mul a c =
@@ -41,10 +41,10 @@ sub_mul a b c = add_mul a (neg_ℤ b) c ∙ ap (λ x. (a *ℤ c) +ℤ x) (neg_mu
 pub mul_assoc : (k f v : ℤ) → (k *ℤ f) *ℤ v ≡ k *ℤ (f *ℤ v)
 mul_assoc k f v =
     ℤ_ind (λ x. (x *ℤ f) *ℤ v ≡ x *ℤ (f *ℤ v))
-      (ap (λ x. x *ℤ v) (zero-*ℤ f) ∙ (zero-*ℤ v ∙ sym (zero-*ℤ (f *ℤ v))))
-      (λ n h. ap (λ x. x *ℤ v) (up_mul (pos n) f) ∙ (add_mul (pos n *ℤ f) f v ∙ (ap (λ x. x +ℤ (f *ℤ v)) h ∙ sym (up_mul (pos n) (f *ℤ v)))))
-      (λ n h. ap (λ x. x *ℤ v) (down_mul (neg_ℤ (pos n)) f) ∙ (sub_mul (neg_ℤ (pos n) *ℤ f) f v ∙ (ap (λ x. x -ℤ (f *ℤ v)) h ∙ sym (down_mul (neg_ℤ (pos n)) (f *ℤ v)))))
-      k
+    (ap (λ x. x *ℤ v) (zero-*ℤ f) ∙ (zero-*ℤ v ∙ sym (zero-*ℤ (f *ℤ v))))
+    (λ n h. ap (λ x. x *ℤ v) (up_mul (pos n) f) ∙ (add_mul (pos n *ℤ f) f v ∙ (ap (λ x. x +ℤ (f *ℤ v)) h ∙ sym (up_mul (pos n) (f *ℤ v)))))
+    (λ n h. ap (λ x. x *ℤ v) (down_mul (neg_ℤ (pos n)) f) ∙ (sub_mul (neg_ℤ (pos n) *ℤ f) f v ∙ (ap (λ x. x -ℤ (f *ℤ v)) h ∙ sym (down_mul (neg_ℤ (pos n)) (f *ℤ v)))))
+    k
 
 pub mul_add : (a b c : ℤ) → a *ℤ (b +ℤ c) ≡ (a *ℤ b) +ℤ (a *ℤ c)
 mul_add a b c = *ℤ_comm a (b +ℤ c) ∙ (add_mul b c a ∙ λ i. *ℤ_comm b a i +ℤ *ℤ_comm c a i)

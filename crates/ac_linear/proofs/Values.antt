@@ -50,9 +50,10 @@ within_itself r n m h = said (within r n) m (λ x. x ≡ n) h (either_some (is_i
 same_unit : (p q : Entry) → side p q ≡ Same → p.unit ≡ q.unit
 same_unit p q =
     elim (slice_cmp nat_cmp p.print q.print) as (λ o. by_order o Before (if term_eq p.unit q.unit then Same else Behind) Behind ≡ Same → p.unit ≡ q.unit) [
-      Less ↦ λ h. cc
-    | Equal ↦ elim (term_eq p.unit q.unit) as (λ b. term_eq p.unit q.unit ≡ b → (if b then Same else Behind) ≡ Same → p.unit ≡ q.unit) [ true ↦ λ t h. term_same p.unit q.unit t | false ↦ λ t h. cc ] refl
-    | Greater ↦ λ h. cc ]
+      | Less ↦ λ h. cc
+      | Equal ↦ elim (term_eq p.unit q.unit) as (λ b. term_eq p.unit q.unit ≡ b → (if b then Same else Behind) ≡ Same → p.unit ≡ q.unit) [ true ↦ λ t h. term_same p.unit q.unit t | false ↦ λ t h. cc ] refl
+      | Greater ↦ λ h. cc
+    ]
 
 zero_test : (f : ℤ) → int_eq f (pos 0) ≡ true → f ≡ pos 0
 zero_test f h = grind arith
@@ -75,8 +76,9 @@ module _ (w : Valuation) (e : List ℤ) where
   with_factor_value : (q : Entry) (qs : List Entry) (f : ℤ) → entries_value (with_factor q qs f) ≡ (f *ℤ value w e q.unit) +ℤ entries_value qs
   with_factor_value q qs f =
       elim (int_eq f (pos 0)) as (λ b. int_eq f (pos 0) ≡ b → entries_value (if b then qs else record q { factor = f } ∷ qs) ≡ (f *ℤ value w e q.unit) +ℤ entries_value qs) [
-        true ↦ λ h. (let z : f *ℤ value w e q.unit ≡ pos 0 = ap (λ x. x *ℤ value w e q.unit) (zero_test f h) ∙ zero-*ℤ (value w e q.unit) in omega (arith, ints, z))
-      | false ↦ λ h. refl ] refl
+        | true ↦ λ h. (let z : f *ℤ value w e q.unit ≡ pos 0 = ap (λ x. x *ℤ value w e q.unit) (zero_test f h) ∙ zero-*ℤ (value w e q.unit) in omega (arith, ints, z))
+        | false ↦ λ h. refl
+      ] refl
 
   behind_sum : (a b c d : ℤ) → d ≡ a +ℤ c → b +ℤ d ≡ a +ℤ (b +ℤ c)
   behind_sum a b c d h = omega (arith, ints, h)
@@ -90,12 +92,13 @@ module _ (w : Valuation) (e : List ℤ) where
       let P : List Entry → Type 0 = (λ rs. entries_value rs ≡ (p.factor *ℤ value w e p.unit) +ℤ ((q.factor *ℤ value w e q.unit) +ℤ entries_value qs)) in
       let behind : IfSome (option_map (λ rest. q ∷ rest) (put_in r p qs)) P = map_some (put_in r p qs) (λ rest. q ∷ rest) P (λ rest h. behind_sum _ _ _ _ (said (put_in r p qs) rest _ h (put_in_value r p qs))) in
       elim (side p q) as (λ o. side p q ≡ o → IfSome (by_side o (Some (p ∷ q ∷ qs)) (option_map (with_factor q qs) (within r (q.factor +ℤ p.factor))) (option_map (λ rest. q ∷ rest) (put_in r p qs))) P) [
-        Before ↦ λ _. refl
-      | Same ↦ λ same. map_some (within r (q.factor +ℤ p.factor)) (with_factor q qs) P (λ f h.
+        | Before ↦ λ _. refl
+        | Same ↦ λ same. map_some (within r (q.factor +ℤ p.factor)) (with_factor q qs) P (λ f h.
             let u : value w e q.unit ≡ value w e p.unit = ap (value w e) (sym (same_unit p q same)) in
             let s : f *ℤ value w e q.unit ≡ (p.factor *ℤ value w e p.unit) +ℤ (q.factor *ℤ value w e q.unit) = joined_sum f q.factor p.factor _ _ _ (within_itself r _ f h) u refl in
             with_factor_value q qs f ∙ omega (arith, ints, s))
-      | Behind ↦ λ _. behind ] refl
+        | Behind ↦ λ _. behind
+      ] refl
 
   multiple_sum : (k f n v a b : ℤ) → f ≡ k *ℤ n → a ≡ (f *ℤ v) +ℤ b → a ≡ b +ℤ (k *ℤ (n *ℤ v))
   multiple_sum k f n v a b h i = (let x : f *ℤ v ≡ k *ℤ (n *ℤ v) = ap (λ y. y *ℤ v) h ∙ mul_assoc k n v in omega (arith, ints, x, i))
@@ -104,31 +107,31 @@ module _ (w : Valuation) (e : List ℤ) where
   multiple_value r k q ps =
       let P : List Entry → Type 0 = (λ rs. entries_value rs ≡ entries_value ps +ℤ (k *ℤ (q.factor *ℤ value w e q.unit))) in
       then_some (within r (k *ℤ q.factor)) (λ f. if int_eq f (pos 0) then Some ps else put_in r (record q { factor = f }) ps) P (λ f hf.
-        let n : f ≡ k *ℤ q.factor = within_itself r _ f hf in
-        either_some (int_eq f (pos 0)) (Some ps) (put_in r (record q { factor = f }) ps) P
-          (λ t. multiple_sum k f q.factor (value w e q.unit) _ _ n (let z : f *ℤ value w e q.unit ≡ pos 0 = ap (λ x. x *ℤ value w e q.unit) (zero_test f t) ∙ zero-*ℤ (value w e q.unit) in omega (arith, ints, z)))
-          (λ _. weaker (put_in r (record q { factor = f }) ps) _ P (λ rs g. multiple_sum k f q.factor (value w e q.unit) _ _ n g) (put_in_value r (record q { factor = f }) ps)))
+      let n : f ≡ k *ℤ q.factor = within_itself r _ f hf in
+      either_some (int_eq f (pos 0)) (Some ps) (put_in r (record q { factor = f }) ps) P
+      (λ t. multiple_sum k f q.factor (value w e q.unit) _ _ n (let z : f *ℤ value w e q.unit ≡ pos 0 = ap (λ x. x *ℤ value w e q.unit) (zero_test f t) ∙ zero-*ℤ (value w e q.unit) in omega (arith, ints, z)))
+      (λ _. weaker (put_in r (record q { factor = f }) ps) _ P (λ rs g. multiple_sum k f q.factor (value w e q.unit) _ _ n g) (put_in_value r (record q { factor = f }) ps)))
 
   pub put_all_value : (r : Range) (ps : List Entry) (k : ℤ) (qs : List Entry) → IfSome (put_all r ps k qs) (λ rs. entries_value rs ≡ entries_value ps +ℤ (k *ℤ entries_value qs))
   put_all_value r ps k [] = (let z : k *ℤ pos 0 ≡ pos 0 = *ℤ-zero k in omega (arith, ints, z))
   put_all_value r ps k (q ∷ qs) =
       let P : List Entry → Type 0 = (λ rs. entries_value rs ≡ entries_value ps +ℤ (k *ℤ ((q.factor *ℤ value w e q.unit) +ℤ entries_value qs))) in
       then_some (put_multiple r k q ps) (λ more. put_all r more k qs) P (λ more hm.
-        let m : entries_value more ≡ entries_value ps +ℤ (k *ℤ (q.factor *ℤ value w e q.unit)) = said (put_multiple r k q ps) more _ hm (multiple_value r k q ps) in
-        let d : k *ℤ ((q.factor *ℤ value w e q.unit) +ℤ entries_value qs) ≡ (k *ℤ (q.factor *ℤ value w e q.unit)) +ℤ (k *ℤ entries_value qs) = mul_add k (q.factor *ℤ value w e q.unit) (entries_value qs) in
-        weaker (put_all r more k qs) _ P (λ rs g. omega (arith, ints, m, d, g)) (put_all_value r more k qs))
+      let m : entries_value more ≡ entries_value ps +ℤ (k *ℤ (q.factor *ℤ value w e q.unit)) = said (put_multiple r k q ps) more _ hm (multiple_value r k q ps) in
+      let d : k *ℤ ((q.factor *ℤ value w e q.unit) +ℤ entries_value qs) ≡ (k *ℤ (q.factor *ℤ value w e q.unit)) +ℤ (k *ℤ entries_value qs) = mul_add k (q.factor *ℤ value w e q.unit) (entries_value qs) in
+      weaker (put_all r more k qs) _ P (λ rs g. omega (arith, ints, m, d, g)) (put_all_value r more k qs))
 
   pub plus_value : (r : Range) (x : Form) (k : ℤ) (y : Form) → IfSome (plus r x k y) (λ z. form_value z ≡ form_value x +ℤ (k *ℤ form_value y))
   plus_value r x k y =
       let P : Form → Type 0 = (λ z. form_value z ≡ form_value x +ℤ (k *ℤ form_value y)) in
       then_some (within r (k *ℤ y.constant)) _ P (λ m hm.
-        then_some (within r (x.constant +ℤ m)) _ P (λ n hn.
-          map_some (put_all r x.entries k y.entries) (λ entries. record { constant = n; entries = entries }) P (λ entries he.
-            let a : m ≡ k *ℤ y.constant = within_itself r _ m hm in
-            let b : n ≡ x.constant +ℤ m = within_itself r _ n hn in
-            let c : entries_value entries ≡ entries_value x.entries +ℤ (k *ℤ entries_value y.entries) = said _ entries _ he (put_all_value r x.entries k y.entries) in
-            let d : k *ℤ (y.constant +ℤ entries_value y.entries) ≡ (k *ℤ y.constant) +ℤ (k *ℤ entries_value y.entries) = mul_add k y.constant (entries_value y.entries) in
-            omega (arith, ints, a, b, c, d))))
+      then_some (within r (x.constant +ℤ m)) _ P (λ n hn.
+      map_some (put_all r x.entries k y.entries) (λ entries. record { constant = n; entries = entries }) P (λ entries he.
+      let a : m ≡ k *ℤ y.constant = within_itself r _ m hm in
+      let b : n ≡ x.constant +ℤ m = within_itself r _ n hn in
+      let c : entries_value entries ≡ entries_value x.entries +ℤ (k *ℤ entries_value y.entries) = said _ entries _ he (put_all_value r x.entries k y.entries) in
+      let d : k *ℤ (y.constant +ℤ entries_value y.entries) ≡ (k *ℤ y.constant) +ℤ (k *ℤ entries_value y.entries) = mul_add k y.constant (entries_value y.entries) in
+      omega (arith, ints, a, b, c, d))))
 
   unit_form_value : (t : Term) → form_value (unit_form t) ≡ value w e t
   unit_form_value t = (let a : pos 1 *ℤ value w e t ≡ value w e t = one_mul (value w e t) in omega (arith, ints, a))
@@ -142,8 +145,8 @@ module _ (w : Valuation) (e : List ℤ) where
   entry_value p =
       let P : Term → Type 0 = (λ t. value w e t ≡ p.factor *ℤ value w e p.unit) in
       either_some (int_eq p.factor (pos 1)) _ _ P
-        (λ h. sym (ap (λ x. x *ℤ value w e p.unit) (one_test p.factor h) ∙ one_mul (value w e p.unit)))
-        (λ _. map_some (number_term p.factor) (λ f. Product f p.unit) P (λ f h. ap (λ x. x *ℤ value w e p.unit) (said (number_term p.factor) f _ h (number_value p.factor))))
+      (λ h. sym (ap (λ x. x *ℤ value w e p.unit) (one_test p.factor h) ∙ one_mul (value w e p.unit)))
+      (λ _. map_some (number_term p.factor) (λ f. Product f p.unit) P (λ f h. ap (λ x. x *ℤ value w e p.unit) (said (number_term p.factor) f _ h (number_value p.factor))))
 
   sum_value : (t : Term) (ps : List Entry) → IfSome (sum_of t ps) (λ s. value w e s ≡ value w e t +ℤ entries_value ps)
   unfolding hidden term_shape term_child array_shape array_child
@@ -151,33 +154,34 @@ module _ (w : Valuation) (e : List ℤ) where
   sum_value t (p ∷ ps) =
       let P : Term → Type 0 = (λ s. value w e s ≡ value w e t +ℤ ((p.factor *ℤ value w e p.unit) +ℤ entries_value ps)) in
       then_some (term_of_entry p) _ P (λ u h.
-        let a : value w e u ≡ p.factor *ℤ value w e p.unit = said (term_of_entry p) u _ h (entry_value p) in
-        weaker (sum_of (Sum t u) ps) _ P (λ s g. omega (arith, ints, a, g)) (sum_value (Sum t u) ps))
+      let a : value w e u ≡ p.factor *ℤ value w e p.unit = said (term_of_entry p) u _ h (entry_value p) in
+      weaker (sum_of (Sum t u) ps) _ P (λ s g. omega (arith, ints, a, g)) (sum_value (Sum t u) ps))
 
   constant_value : (t : Term) (n : ℤ) → IfSome (with_constant t n) (λ s. value w e s ≡ n +ℤ value w e t)
   unfolding hidden term_shape term_child array_shape array_child
   constant_value t n =
       let P : Term → Type 0 = (λ s. value w e s ≡ n +ℤ value w e t) in
       either_some (int_eq n (pos 0)) _ _ P
-        (λ h. let z : n ≡ pos 0 = zero_test n h in omega (arith, ints, z))
-        (λ _. map_some (number_term n) (λ m. Sum t m) P (λ m h. let a : value w e m ≡ n = said (number_term n) m _ h (number_value n) in omega (arith, ints, a)))
+      (λ h. let z : n ≡ pos 0 = zero_test n h in omega (arith, ints, z))
+      (λ _. map_some (number_term n) (λ m. Sum t m) P (λ m h. let a : value w e m ≡ n = said (number_term n) m _ h (number_value n) in omega (arith, ints, a)))
 
   pub parts_term_value : (n : ℤ) (ps : List Entry) → IfSome (term_of_parts n ps) (λ t. value w e t ≡ n +ℤ entries_value ps)
   parts_term_value n [] = weaker (number_term n) _ (λ t. value w e t ≡ n +ℤ pos 0) (λ t h. omega (arith, ints, h)) (number_value n)
   parts_term_value n (p ∷ ps) =
       let P : Term → Type 0 = (λ t. value w e t ≡ n +ℤ ((p.factor *ℤ value w e p.unit) +ℤ entries_value ps)) in
       then_some (term_of_entry p) _ P (λ u h.
-        let a : value w e u ≡ p.factor *ℤ value w e p.unit = said (term_of_entry p) u _ h (entry_value p) in
-        then_some (sum_of u ps) _ P (λ s g.
-          let b : value w e s ≡ value w e u +ℤ entries_value ps = said (sum_of u ps) s _ g (sum_value u ps) in
-          weaker (with_constant s n) _ P (λ t c. omega (arith, ints, a, b, c)) (constant_value s n)))
+      let a : value w e u ≡ p.factor *ℤ value w e p.unit = said (term_of_entry p) u _ h (entry_value p) in
+      then_some (sum_of u ps) _ P (λ s g.
+      let b : value w e s ≡ value w e u +ℤ entries_value ps = said (sum_of u ps) s _ g (sum_value u ps) in
+      weaker (with_constant s n) _ P (λ t c. omega (arith, ints, a, b, c)) (constant_value s n)))
 
   product_value : (s t : Term) → value w e (unit_product s t) ≡ value w e s *ℤ value w e t
   unfolding hidden term_shape term_child array_shape array_child
   product_value s t =
       elim (is_gt (slice_cmp nat_cmp (text_of_term 0 s) (text_of_term 0 t))) as (λ b. value w e (if b then Product t s else Product s t) ≡ value w e s *ℤ value w e t) [
-        true ↦ *ℤ_comm (value w e t) (value w e s)
-      | false ↦ refl ]
+        | true ↦ *ℤ_comm (value w e t) (value w e s)
+        | false ↦ refl
+      ]
 
   scaled_value : (n : ℤ) (y : Form) (c m : ℤ) → c ≡ n → m ≡ form_value y → IfSome (plus Coefficient (number_form (pos 0)) n y) (λ z. form_value z ≡ c *ℤ m)
   scaled_value n y c m h k = weaker (plus Coefficient (number_form (pos 0)) n y) _ (λ z. form_value z ≡ c *ℤ m) (λ z g. let a : c *ℤ m ≡ n *ℤ form_value y = (λ i. h i *ℤ k i) in omega (arith, ints, a, g)) (plus_value Coefficient (number_form (pos 0)) n y)
@@ -192,10 +196,10 @@ module _ (w : Valuation) (e : List ℤ) where
   times_value x y (p ∷ xs) (q ∷ ys) h k =
       let P : Form → Type 0 = (λ z. form_value z ≡ form_value x *ℤ form_value y) in
       then_some (term_of_form x) _ P (λ s g.
-        map_some (term_of_form y) (λ t. unit_form (unit_product s t)) P (λ t f.
-          let a : value w e s ≡ form_value x = said (term_of_form x) s _ g (parts_term_value x.constant x.entries) in
-          let b : value w e t ≡ form_value y = said (term_of_form y) t _ f (parts_term_value y.constant y.entries) in
-          unit_form_value (unit_product s t) ∙ (product_value s t ∙ λ i. a i *ℤ b i)))
+      map_some (term_of_form y) (λ t. unit_form (unit_product s t)) P (λ t f.
+      let a : value w e s ≡ form_value x = said (term_of_form x) s _ g (parts_term_value x.constant x.entries) in
+      let b : value w e t ≡ form_value y = said (term_of_form y) t _ f (parts_term_value y.constant y.entries) in
+      unit_form_value (unit_product s t) ∙ (product_value s t ∙ λ i. a i *ℤ b i)))
 
   pub form_has_value : (t : Term) → IfSome (form_of t) (λ x. form_value x ≡ value w e t)
   unfolding hidden term_shape term_child array_shape array_child
@@ -205,36 +209,36 @@ module _ (w : Valuation) (e : List ℤ) where
   form_has_value (ReadOf a i j) =
       let P : Form → Type 0 = (λ x. form_value x ≡ table_of w e a (value w e i) (value w e j)) in
       then_some (form_of i) _ P (λ x hx. then_some (form_of j) _ P (λ y hy.
-        then_some (term_of_form x) _ P (λ k hk. map_some (term_of_form y) (unit_read a k) P (λ l hl.
-          let p : value w e k ≡ value w e i = said (term_of_form x) k _ hk (parts_term_value x.constant x.entries) ∙ said (form_of i) x _ hx (form_has_value i) in
-          let q : value w e l ≡ value w e j = said (term_of_form y) l _ hl (parts_term_value y.constant y.entries) ∙ said (form_of j) y _ hy (form_has_value j) in
-          unit_form_value (ReadOf a k l) ∙ λ z. table_of w e a (p z) (q z)))))
+      then_some (term_of_form x) _ P (λ k hk. map_some (term_of_form y) (unit_read a k) P (λ l hl.
+      let p : value w e k ≡ value w e i = said (term_of_form x) k _ hk (parts_term_value x.constant x.entries) ∙ said (form_of i) x _ hx (form_has_value i) in
+      let q : value w e l ≡ value w e j = said (term_of_form y) l _ hl (parts_term_value y.constant y.entries) ∙ said (form_of j) y _ hy (form_has_value j) in
+      unit_form_value (ReadOf a k l) ∙ λ z. table_of w e a (p z) (q z)))))
   form_has_value (Sum s t) =
       let P : Form → Type 0 = (λ x. form_value x ≡ value w e s +ℤ value w e t) in
       then_some (form_of s) _ P (λ x hx. then_some (form_of t) _ P (λ y hy.
-        let p : form_value x ≡ value w e s = said (form_of s) x _ hx (form_has_value s) in
-        let q : form_value y ≡ value w e t = said (form_of t) y _ hy (form_has_value t) in
-        let o : pos 1 *ℤ form_value y ≡ form_value y = one_mul (form_value y) in
-        weaker (plus Coefficient x (pos 1) y) _ P (λ z g. g ∙ ((λ i. p i +ℤ o i) ∙ ap (λ u. value w e s +ℤ u) q)) (plus_value Coefficient x (pos 1) y)))
+      let p : form_value x ≡ value w e s = said (form_of s) x _ hx (form_has_value s) in
+      let q : form_value y ≡ value w e t = said (form_of t) y _ hy (form_has_value t) in
+      let o : pos 1 *ℤ form_value y ≡ form_value y = one_mul (form_value y) in
+      weaker (plus Coefficient x (pos 1) y) _ P (λ z g. g ∙ ((λ i. p i +ℤ o i) ∙ ap (λ u. value w e s +ℤ u) q)) (plus_value Coefficient x (pos 1) y)))
   form_has_value (Difference s t) =
       let P : Form → Type 0 = (λ x. form_value x ≡ value w e s -ℤ value w e t) in
       then_some (form_of s) _ P (λ x hx. then_some (form_of t) _ P (λ y hy.
-        let p : form_value x ≡ value w e s = said (form_of s) x _ hx (form_has_value s) in
-        let q : form_value y ≡ value w e t = said (form_of t) y _ hy (form_has_value t) in
-        let o : negsuc 0 *ℤ form_value y ≡ neg_ℤ (form_value y) = minus_one_mul (form_value y) in
-        weaker (plus Coefficient x (negsuc 0) y) _ P (λ z g. g ∙ ((λ i. p i +ℤ o i) ∙ ap (λ u. value w e s +ℤ neg_ℤ u) q)) (plus_value Coefficient x (negsuc 0) y)))
+      let p : form_value x ≡ value w e s = said (form_of s) x _ hx (form_has_value s) in
+      let q : form_value y ≡ value w e t = said (form_of t) y _ hy (form_has_value t) in
+      let o : negsuc 0 *ℤ form_value y ≡ neg_ℤ (form_value y) = minus_one_mul (form_value y) in
+      weaker (plus Coefficient x (negsuc 0) y) _ P (λ z g. g ∙ ((λ i. p i +ℤ o i) ∙ ap (λ u. value w e s +ℤ neg_ℤ u) q)) (plus_value Coefficient x (negsuc 0) y)))
   form_has_value (Product s t) =
       let P : Form → Type 0 = (λ x. form_value x ≡ value w e s *ℤ value w e t) in
       then_some (form_of s) _ P (λ x hx. then_some (form_of t) _ P (λ y hy.
-        let p : form_value x ≡ value w e s = said (form_of s) x _ hx (form_has_value s) in
-        let q : form_value y ≡ value w e t = said (form_of t) y _ hy (form_has_value t) in
-        weaker (times x y x.entries y.entries) _ P (λ z g. g ∙ λ i. p i *ℤ q i) (times_value x y x.entries y.entries refl refl)))
+      let p : form_value x ≡ value w e s = said (form_of s) x _ hx (form_has_value s) in
+      let q : form_value y ≡ value w e t = said (form_of t) y _ hy (form_has_value t) in
+      weaker (times x y x.entries y.entries) _ P (λ z g. g ∙ λ i. p i *ℤ q i) (times_value x y x.entries y.entries refl refl)))
   form_has_value (Negative t) =
       let P : Form → Type 0 = (λ x. form_value x ≡ neg_ℤ (value w e t)) in
       then_some (form_of t) _ P (λ y hy.
-        let q : form_value y ≡ value w e t = said (form_of t) y _ hy (form_has_value t) in
-        let o : negsuc 0 *ℤ form_value y ≡ neg_ℤ (form_value y) = minus_one_mul (form_value y) in
-        weaker (plus Coefficient (number_form (pos 0)) (negsuc 0) y) _ P (λ z g. (let s : form_value z ≡ neg_ℤ (form_value y) = (let a : form_value z ≡ pos 0 +ℤ (negsuc 0 *ℤ form_value y) = g in omega (arith, ints, a, o)) in s ∙ ap neg_ℤ q)) (plus_value Coefficient (number_form (pos 0)) (negsuc 0) y))
+      let q : form_value y ≡ value w e t = said (form_of t) y _ hy (form_has_value t) in
+      let o : negsuc 0 *ℤ form_value y ≡ neg_ℤ (form_value y) = minus_one_mul (form_value y) in
+      weaker (plus Coefficient (number_form (pos 0)) (negsuc 0) y) _ P (λ z g. (let s : form_value z ≡ neg_ℤ (form_value y) = (let a : form_value z ≡ pos 0 +ℤ (negsuc 0 *ℤ form_value y) = g in omega (arith, ints, a, o)) in s ∙ ap neg_ℤ q)) (plus_value Coefficient (number_form (pos 0)) (negsuc 0) y))
 
   pub linear_form : (x : Form) → linear_value w e (linear_of x) ≡ form_value x
   linear_form x = ap (λ y. x.constant +ℤ y) (entries_parts x.entries)

@@ -65,9 +65,9 @@ abbrev pub put_in : Range → Entry → List Entry → Option (List Entry)
 put_in r p [] = Some (p ∷ [])
 put_in r p (q ∷ qs) =
     by_side (side p q)
-      (Some (p ∷ q ∷ qs))
-      (option_map (with_factor q qs) (within r (q.factor +ℤ p.factor)))
-      (option_map (λ rest. q ∷ rest) (put_in r p qs))
+    (Some (p ∷ q ∷ qs))
+    (option_map (with_factor q qs) (within r (q.factor +ℤ p.factor)))
+    (option_map (λ rest. q ∷ rest) (put_in r p qs))
 
 -- a part k times put into its place, unless its factor becomes 0
 abbrev pub put_multiple : Range → ℤ → Entry → List Entry → Option (List Entry)

@@ -1,8 +1,10 @@
 //! The working form: parts with their units' prints, so that each unit is printed once.
-ghost use Rattle.std.specs.Prelude.{◌≡◌};
+ghost use Rattle.std.specs.Prelude.{◌≡◌, IfOk};
+ghost use Rattle.ac_logic.specs.Printing.{text_of_term};
 
-use ac_logic::Term;
+use ac_logic::{Term, print_term};
 use ac_shared::Shared;
+use std::alloc::{AllocError, Global};
 use std::marker::Model;
 
 /// The print of a unit, which contracts see as its bytes.
@@ -23,6 +25,14 @@ impl Model for Print {
 }
 
 impl Print {
+    /// The print of a term.
+    pub fn of(alloc: Global, term: &Term) -> Result<Print, AllocError>
+        ensures { IfOk result (λ print. print ≡ text_of_term 0 term.now) }
+    {
+        let text = print_term(alloc, term)?;
+        Ok(Print { text })
+    }
+
     pub fn text(&self) -> &str
         ensures { result.now ≡ self.now }
     {
@@ -30,7 +40,7 @@ impl Print {
     }
 }
 
-/// A part with the print of its unit.
+/// A part with the print of its unit, which is kept so that each unit is printed once.
 #[derive(Debug, Drop)]
 pub struct Entry {
     pub unit: Shared<Term>,

@@ -75,7 +75,11 @@ fn put_multiple(
 
 /// The parts and one more, in its place.
 #[tactic(auto, using(crate::proofs::Put::put_by_index))]
-fn put_in(range: Range, entry: Entry, entries: Entries<Entry>) -> Result<Option<Entries<Entry>>, AllocError>
+fn put_in(
+    range: Range,
+    entry: Entry,
+    entries: Entries<Entry>,
+) -> Result<Option<Entries<Entry>>, AllocError>
     ensures { IfOk result (λ all. all ≡ put_in range entry entries) }
 {
     match place_of(&entry, entries.items.as_slice()) {

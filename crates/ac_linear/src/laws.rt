@@ -10,11 +10,9 @@ ghost use Rattle.ac_linear.specs.NormalForm.{normal_of};
 /// Under every valuation a normal form has its term's number.
 pub fn normal_law()
     ensures { (t : AnyTerm) (l : AnyLinear) (w : Valuation) (e : List ℤ) → normal_of t ≡ Some l → linear_value w e l ≡ value w e t }
-{
-}
+{}
 
 /// Under every valuation a combination has the sum of factor times fact.
 pub fn combination_law()
     ensures { (facts : List AnyLinear) (factors : List ℕ) (l : AnyLinear) (w : Valuation) (e : List ℤ) → combination_of facts factors ≡ Some l → linear_value w e l ≡ weighted w e facts factors }
-{
-}
+{}

@@ -4,18 +4,21 @@
 //! is not linear. Under every valuation it has the number of the term that it comes from.
 #![tactic(auto, unfolding(crate::specs::Opened::term_shape, crate::specs::Opened::term_child, crate::specs::Opened::array_shape, crate::specs::Opened::array_child, crate::specs::Opened::hidden))]
 
-#[allow(dead_code)]
+mod combination;
 mod entry;
 mod fault;
-#[allow(dead_code)]
+mod fold;
 mod form;
 mod laws;
 mod linear;
-#[allow(dead_code)]
+mod normal_form;
 mod place;
-#[allow(dead_code)]
 mod range;
+mod unit;
+mod written;
 
+pub use combination::combine;
 pub use fault::LinFault;
 pub use laws::{combination_law, normal_law};
 pub use linear::{Linear, Part};
+pub use normal_form::normal;
