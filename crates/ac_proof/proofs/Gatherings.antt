@@ -25,29 +25,33 @@ facts_behind-is : (ls : List Linear) (fs : List Formula) → facts_behind ls fs 
 facts_behind-is ls [] = ap Some (sym (append-nil ls))
 facts_behind-is ls (f ∷ fs) =
     elim (fact f) as (λ o. and_then o (λ l. facts_behind (ls ++ l ∷ []) fs) ≡ behind ls (and_then o (λ l. option_map (λ more. l ∷ more) (facts fs)))) [
-      None ↦ refl
-    | Some l ↦ facts_behind-is (ls ++ l ∷ []) fs ∙ behind_cons ls l (facts fs) ]
+      | None ↦ refl
+      | Some l ↦ facts_behind-is (ls ++ l ∷ []) fs ∙ behind_cons ls l (facts fs)
+    ]
 
 -- the first formula, and then the others
 pub facts_behind-cons : (ls : List Linear) (f : Formula) (fs : List Formula) → facts_behind ls (f ∷ fs) ≡ and_then (facts_behind ls (f ∷ [])) (λ ms. facts_behind ms fs)
 facts_behind-cons ls f fs =
     elim (fact f) as (λ o. and_then o (λ l. facts_behind (ls ++ l ∷ []) fs) ≡ and_then (and_then o (λ l. Some (ls ++ l ∷ []))) (λ ms. facts_behind ms fs)) [
-      None ↦ refl
-    | Some l ↦ refl ]
+      | None ↦ refl
+      | Some l ↦ refl
+    ]
 
 facts_behind-append : (ls : List Linear) (fs gs : List Formula) → facts_behind ls (fs ++ gs) ≡ and_then (facts_behind ls fs) (λ ms. facts_behind ms gs)
 facts_behind-append ls [] gs = refl
 facts_behind-append ls (f ∷ fs) gs =
     elim (fact f) as (λ o. and_then o (λ l. facts_behind (ls ++ l ∷ []) (fs ++ gs)) ≡ and_then (and_then o (λ l. facts_behind (ls ++ l ∷ []) fs)) (λ ms. facts_behind ms gs)) [
-      None ↦ refl
-    | Some l ↦ facts_behind-append (ls ++ l ∷ []) fs gs ]
+      | None ↦ refl
+      | Some l ↦ facts_behind-append (ls ++ l ∷ []) fs gs
+    ]
 
 -- the facts of a step, from the denial of its goal on
 pub facts_of_step-is : (g : Formula) (ps : List Formula) → and_then (and_then (denial g) (facts_behind [])) (λ ls. facts_behind ls ps) ≡ facts_of_step g ps
 facts_of_step-is g ps =
     elim (denial g) as (λ o. and_then (and_then o (facts_behind [])) (λ ls. facts_behind ls ps) ≡ and_then o (λ first. facts (first ++ ps))) [
-      None ↦ refl
-    | Some first ↦ sym (facts_behind-append [] first ps) ∙ (facts_behind-is [] (first ++ ps) ∙ behind_nil (facts (first ++ ps))) ]
+      | None ↦ refl
+      | Some first ↦ sym (facts_behind-append [] first ps) ∙ (facts_behind-is [] (first ++ ps) ∙ behind_nil (facts (first ++ ps)))
+    ]
 
 -- the premises from number i on
 pub goals_from : (ts : List ProofTree) (i : ℕ) (t : ProofTree) → i < length ts → t ≡ get_or ts i t → map goal_of (drop i ts) ≡ goal_of t ∷ map goal_of (drop (i + 1) ts)
@@ -60,4 +64,4 @@ pub gathered : (ls : List Linear) (ts : List ProofTree) (i : ℕ) (t : ProofTree
 gathered ls ts i t f o lt e g n =
     let h : f ≡ goal_of t = g ∙ goal-out t in
     ap (λ p. and_then p (λ ms. facts_behind ms (map goal_of (drop (i + 1) ts)))) (n ∙ ap (λ x. facts_behind ls (x ∷ [])) h)
-        ∙ (sym (facts_behind-cons ls (goal_of t) (map goal_of (drop (i + 1) ts))) ∙ ap (facts_behind ls) (sym (goals_from ts i t lt e)))
+    ∙ (sym (facts_behind-cons ls (goal_of t) (map goal_of (drop (i + 1) ts))) ∙ ap (facts_behind ls) (sym (goals_from ts i t lt e)))

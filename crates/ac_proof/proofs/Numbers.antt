@@ -10,8 +10,9 @@ use Rattle.ac_logic.specs.Meaning.{Table, with_cell}
 pub in_order : (x y : ℤ) → (x ≤ℤ y → ⊥) → ((y +ℤ pos 1) ≤ℤ x → ⊥) → ⊥
 in_order x y a b =
     elim (lt_z y x) as (λ r. lt_z y x ≡ r → ⊥) [
-      true ↦ λ e. let above : y <ℤ x = lt_z_yes (subst T (sym e) tt) in b (omega (arith, ints))
-    | false ↦ λ e. a (lt_z_no (subst (λ r. T (not r)) (sym e) tt)) ] refl
+      | true ↦ λ e. let above : y <ℤ x = lt_z_yes (subst T (sym e) tt) in b (omega (arith, ints))
+      | false ↦ λ e. a (lt_z_no (subst (λ r. T (not r)) (sym e) tt))
+    ] refl
 
 pub equal_or_apart : (x y : ℤ) → (x ≡ y → ⊥) → ((x +ℤ pos 1) ≤ℤ y → ⊥) → ((y +ℤ pos 1) ≤ℤ x → ⊥) → ⊥
 equal_or_apart x y a b c = in_order x y (λ below. in_order y x (λ above. a (omega (arith, ints))) b) c

@@ -179,7 +179,7 @@ unfolding formula_shape formula_child term_shape term_child array_shape array_ch
 linear hs factors False ps s each w h = no_contradiction w ps s.0 factors s.1 s.2 s.4 s.5 (premises_hold w hs factors False ps 0 ps each h)
 linear hs factors (Le x y) ps s each w h =
     stable w [] (Le x y) (λ fails. numbers.in_order (value w [] x) (value w [] y) fails (λ above.
-        no_contradiction w (Le (next y) x ∷ ps) s.0 factors s.1 s.2 s.4 s.5 (above, premises_hold w hs factors (Le x y) ps 0 ps each h)))
+    no_contradiction w (Le (next y) x ∷ ps) s.0 factors s.1 s.2 s.4 s.5 (above, premises_hold w hs factors (Le x y) ps 0 ps each h)))
 linear hs factors g ps s each w h = let e = s.2 in cc
 
 instance_sound : (hs : List Formula) (r : Rule) (g : Formula) (ps : List Formula) → IsInstance hs r g ps → EachFollows hs r g ps 0 ps → Follows hs g

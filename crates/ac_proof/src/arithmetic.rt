@@ -14,9 +14,13 @@ use ac_logic::{Formula, Term, same_term};
 pub fn is_eq_le(goal: &Formula, premises: &[ProofTree]) -> bool
     ensures { IsTrue result ↔ IsInstance [] EqLe goal.now (map goal_of premises.now) }
 {
-    let Formula::Le(u, v) = goal else { return false };
+    let Formula::Le(u, v) = goal else {
+        return false
+    };
     let [p] = premises else { return false };
-    let Formula::Eq(s, t) = p.goal.get() else { return false };
+    let Formula::Eq(s, t) = p.goal.get() else {
+        return false
+    };
     if same_term(u.get(), s.get()) && same_term(v.get(), t.get()) {
         return true;
     }
@@ -27,8 +31,12 @@ pub fn is_le_total(goal: &Formula, premises: &[ProofTree]) -> bool
     ensures { IsTrue result ↔ IsInstance [] LeTotal goal.now (map goal_of premises.now) }
 {
     let [] = premises else { return false };
-    let Formula::Or(first, second) = goal else { return false };
-    let Formula::Le(s, t) = first.get() else { return false };
+    let Formula::Or(first, second) = goal else {
+        return false
+    };
+    let Formula::Le(s, t) = first.get() else {
+        return false
+    };
     is_less(second.get(), t.get(), s.get())
 }
 
@@ -36,8 +44,12 @@ pub fn is_eq_split(goal: &Formula, premises: &[ProofTree]) -> bool
     ensures { IsTrue result ↔ IsInstance [] EqSplit goal.now (map goal_of premises.now) }
 {
     let [] = premises else { return false };
-    let Formula::Or(first, rest) = goal else { return false };
-    let Formula::Eq(s, t) = first.get() else { return false };
+    let Formula::Or(first, rest) = goal else {
+        return false
+    };
+    let Formula::Eq(s, t) = first.get() else {
+        return false
+    };
     is_apart(rest.get(), s.get(), t.get())
 }
 
@@ -45,7 +57,9 @@ pub fn is_eq_split(goal: &Formula, premises: &[ProofTree]) -> bool
 fn is_apart(formula: &Formula, s: &Term, t: &Term) -> bool
     ensures { IsTrue result ↔ (formula.now ≡ Or (Le (next s.now) t.now) (Le (next t.now) s.now)) }
 {
-    let Formula::Or(below, above) = formula else { return false };
+    let Formula::Or(below, above) = formula else {
+        return false
+    };
     is_less(below.get(), s, t) && is_less(above.get(), t, s)
 }
 
@@ -53,7 +67,9 @@ fn is_apart(formula: &Formula, s: &Term, t: &Term) -> bool
 fn is_less(formula: &Formula, s: &Term, t: &Term) -> bool
     ensures { IsTrue result ↔ (formula.now ≡ Le (next s.now) t.now) }
 {
-    let Formula::Le(u, v) = formula else { return false };
+    let Formula::Le(u, v) = formula else {
+        return false
+    };
     is_next(u.get(), s) && same_term(v.get(), t)
 }
 
@@ -61,7 +77,9 @@ fn is_less(formula: &Formula, s: &Term, t: &Term) -> bool
 fn is_next(term: &Term, s: &Term) -> bool
     ensures { IsTrue result ↔ (term.now ≡ next s.now) }
 {
-    let Term::Add(u, one) = term else { return false };
+    let Term::Add(u, one) = term else {
+        return false
+    };
     is_one(one.get()) && same_term(u.get(), s)
 }
 

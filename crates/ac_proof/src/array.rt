@@ -14,11 +14,21 @@ pub fn is_read_put(goal: &Formula, premises: &[ProofTree]) -> bool
     ensures { IsTrue result ↔ IsInstance [] ReadPut goal.now (map goal_of premises.now) }
 {
     let [] = premises else { return false };
-    let Formula::Or(new, old) = goal else { return false };
-    let Formula::And(here, written) = new.get() else { return false };
-    let Formula::Eq(cell, value) = written.get() else { return false };
-    let Term::Read(put, k, l) = cell.get() else { return false };
-    let ArrayTerm::Put(a, i, j, v) = put.get() else { return false };
+    let Formula::Or(new, old) = goal else {
+        return false
+    };
+    let Formula::And(here, written) = new.get() else {
+        return false
+    };
+    let Formula::Eq(cell, value) = written.get() else {
+        return false
+    };
+    let Term::Read(put, k, l) = cell.get() else {
+        return false
+    };
+    let ArrayTerm::Put(a, i, j, v) = put.get() else {
+        return false
+    };
     same_term(value.get(), v.get())
         && is_same_cell(here.get(), i.get(), j.get(), k.get(), l.get())
         && is_old_cell(old.get(), here.get(), cell.get(), a.get(), k.get(), l.get())
@@ -28,17 +38,32 @@ pub fn is_read_put(goal: &Formula, premises: &[ProofTree]) -> bool
 fn is_same_cell(formula: &Formula, i: &Term, j: &Term, k: &Term, l: &Term) -> bool
     ensures { IsTrue result ↔ (formula.now ≡ And (Eq i.now k.now) (Eq j.now l.now)) }
 {
-    let Formula::And(first, second) = formula else { return false };
+    let Formula::And(first, second) = formula else {
+        return false
+    };
     is_equation(first.get(), i, k) && is_equation(second.get(), j, l)
 }
 
 /// Whether the formula is `not here and cell = a[k,l]`.
-fn is_old_cell(formula: &Formula, here: &Formula, cell: &Term, a: &ArrayTerm, k: &Term, l: &Term) -> bool
+fn is_old_cell(
+    formula: &Formula,
+    here: &Formula,
+    cell: &Term,
+    a: &ArrayTerm,
+    k: &Term,
+    l: &Term,
+) -> bool
     ensures { IsTrue result ↔ (formula.now ≡ And (Not here.now) (Eq cell.now (Read a.now k.now l.now))) }
 {
-    let Formula::And(elsewhere, kept) = formula else { return false };
-    let Formula::Not(f) = elsewhere.get() else { return false };
-    let Formula::Eq(s, t) = kept.get() else { return false };
+    let Formula::And(elsewhere, kept) = formula else {
+        return false
+    };
+    let Formula::Not(f) = elsewhere.get() else {
+        return false
+    };
+    let Formula::Eq(s, t) = kept.get() else {
+        return false
+    };
     same(f.get(), here) && same_term(s.get(), cell) && is_read(t.get(), a, k, l)
 }
 
@@ -46,7 +71,9 @@ fn is_old_cell(formula: &Formula, here: &Formula, cell: &Term, a: &ArrayTerm, k:
 fn is_read(term: &Term, a: &ArrayTerm, k: &Term, l: &Term) -> bool
     ensures { IsTrue result ↔ (term.now ≡ Read a.now k.now l.now) }
 {
-    let Term::Read(b, m, n) = term else { return false };
+    let Term::Read(b, m, n) = term else {
+        return false
+    };
     same_array(b.get(), a) && same_term(m.get(), k) && same_term(n.get(), l)
 }
 
@@ -54,16 +81,24 @@ fn is_read(term: &Term, a: &ArrayTerm, k: &Term, l: &Term) -> bool
 fn is_equation(formula: &Formula, s: &Term, t: &Term) -> bool
     ensures { IsTrue result ↔ (formula.now ≡ Eq s.now t.now) }
 {
-    let Formula::Eq(u, v) = formula else { return false };
+    let Formula::Eq(u, v) = formula else {
+        return false
+    };
     same_term(u.get(), s) && same_term(v.get(), t)
 }
 
 pub fn is_read_same(goal: &Formula, premises: &[ProofTree]) -> bool
     ensures { IsTrue result ↔ IsInstance [] ReadSame goal.now (map goal_of premises.now) }
 {
-    let Formula::Eq(x, y) = goal else { return false };
-    let Term::Read(a, i, j) = x.get() else { return false };
-    let Term::Read(b, k, l) = y.get() else { return false };
+    let Formula::Eq(x, y) = goal else {
+        return false
+    };
+    let Term::Read(a, i, j) = x.get() else {
+        return false
+    };
+    let Term::Read(b, k, l) = y.get() else {
+        return false
+    };
     let [p, q] = premises else { return false };
     same_array(a.get(), b.get())
         && is_equation(p.goal.get(), i.get(), k.get())

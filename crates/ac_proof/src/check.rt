@@ -17,7 +17,11 @@ use std::alloc::{AllocError, Global};
 
 /// Checks a proof under hypotheses. The fault names the first step in preorder whose goal or term is not readable or which
 /// is no instance of its rule.
-pub fn check_proof(alloc: Global, hyps: &[Shared<Formula>], tree: &ProofTree) -> Result<(), CheckFault>
+pub fn check_proof(
+    alloc: Global,
+    hyps: &[Shared<Formula>],
+    tree: &ProofTree,
+) -> Result<(), CheckFault>
     ensures checked { OnOk result (Checked hyps.now tree.now) }
     ensures sound { OnOk result (Follows hyps.now (goal_of tree.now)) }
     ensures fault { IfErr result (IsFault hyps.now tree.now) }
@@ -33,12 +37,23 @@ pub fn check_proof(alloc: Global, hyps: &[Shared<Formula>], tree: &ProofTree) ->
 
 /// Checks a proof, and leaves the hypotheses as they were. Where it fails, the path has grown to the first fault.
 #[cycle(walk)]
-fn walk(alloc: Global, hyps: &mut Vec<Shared<Formula>>, path: &mut Vec<u32>, tree: &ProofTree) -> Result<bool, AllocError>
+fn walk(
+    alloc: Global,
+    hyps: &mut Vec<Shared<Formula>>,
+    path: &mut Vec<u32>,
+    tree: &ProofTree,
+) -> Result<bool, AllocError>
     ensures walked { IfOk result (λ checked. Walked hyps.old.items tree.now path.old.items path.new.items checked) }
     ensures hyps { IfOk result (λ checked. IsTrue checked → hyps.new.items ≡ hyps.old.items) }
 {
     let premises = tree.premises.as_slice();
-    if !is_step(alloc, hyps.as_slice(), &tree.rule, tree.goal.get(), premises)? {
+    if !is_step(
+        alloc,
+        hyps.as_slice(),
+        &tree.rule,
+        tree.goal.get(),
+        premises,
+    )? {
         return Ok(false);
     }
     for i in 0..premises.len() {
@@ -51,7 +66,13 @@ fn walk(alloc: Global, hyps: &mut Vec<Shared<Formula>>, path: &mut Vec<u32>, tre
 
 /// Checks premise number i of a proof.
 #[cycle(walk)]
-fn walk_premise(alloc: Global, hyps: &mut Vec<Shared<Formula>>, path: &mut Vec<u32>, tree: &ProofTree, i: usize) -> Result<bool, AllocError>
+fn walk_premise(
+    alloc: Global,
+    hyps: &mut Vec<Shared<Formula>>,
+    path: &mut Vec<u32>,
+    tree: &ProofTree,
+    i: usize,
+) -> Result<bool, AllocError>
     requires { i < length (out-ProofTree tree.now).premises }
     ensures { IfOk result (λ checked. WalkedInto hyps.old.items hyps.new.items path.old.items path.new.items tree.now i checked) }
 {
@@ -70,7 +91,12 @@ fn walk_premise(alloc: Global, hyps: &mut Vec<Shared<Formula>>, path: &mut Vec<u
 }
 
 /// Pushes what premise number i may use besides the hypotheses.
-fn push_added(alloc: Global, hyps: &mut Vec<Shared<Formula>>, tree: &ProofTree, i: usize) -> Result<(), AllocError>
+fn push_added(
+    alloc: Global,
+    hyps: &mut Vec<Shared<Formula>>,
+    tree: &ProofTree,
+    i: usize,
+) -> Result<(), AllocError>
     ensures { OnOk result (hyps.new.items ≡ hyps.old.items ++ added (out-ProofTree tree.now).rule (out-ProofTree tree.now).goal (map goal_of (out-ProofTree tree.now).premises) i) }
 {
     if let Some(more) = added_to(alloc, &tree.rule, &tree.goal, tree.premises.as_slice(), i)? {

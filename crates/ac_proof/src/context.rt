@@ -12,7 +12,13 @@ use ac_shared::Shared;
 use std::alloc::{AllocError, Global};
 
 /// What premise number i may use besides the hypotheses, if the rule adds anything for it.
-pub fn added_to(alloc: Global, rule: &Rule, goal: &Shared<Formula>, premises: &[ProofTree], i: usize) -> Result<Option<Shared<Formula>>, AllocError>
+pub fn added_to(
+    alloc: Global,
+    rule: &Rule,
+    goal: &Shared<Formula>,
+    premises: &[ProofTree],
+    i: usize,
+) -> Result<Option<Shared<Formula>>, AllocError>
     ensures { IfOk result (λ more. option_to_list more ≡ added rule.now goal.now (map goal_of premises.now) i) }
 {
     match rule {
@@ -37,7 +43,9 @@ fn side_of(premises: &[ProofTree], i: usize) -> Result<Option<Shared<Formula>>, 
 fn side_in(formula: &Formula, i: usize) -> Result<Option<Shared<Formula>>, AllocError>
     ensures { IfOk result (λ more. option_to_list more ≡ slice_index_or (sides (formula.now ∷ [])) i []) }
 {
-    let Formula::Or(a, b) = formula else { return Ok(None) };
+    let Formula::Or(a, b) = formula else {
+        return Ok(None)
+    };
     if i == 1 {
         return Ok(Some(a.share()?));
     }
@@ -51,7 +59,9 @@ fn side_in(formula: &Formula, i: usize) -> Result<Option<Shared<Formula>>, Alloc
 fn antecedent_of(goal: &Formula, i: usize) -> Result<Option<Shared<Formula>>, AllocError>
     ensures { IfOk result (λ more. option_to_list more ≡ slice_index_or (antecedent goal.now) i []) }
 {
-    let Formula::Implies(a, _) = goal else { return Ok(None) };
+    let Formula::Implies(a, _) = goal else {
+        return Ok(None)
+    };
     if i > 0 {
         return Ok(None);
     }
@@ -62,7 +72,9 @@ fn antecedent_of(goal: &Formula, i: usize) -> Result<Option<Shared<Formula>>, Al
 fn denied_by(goal: &Formula, i: usize) -> Result<Option<Shared<Formula>>, AllocError>
     ensures { IfOk result (λ more. option_to_list more ≡ slice_index_or (denied goal.now) i []) }
 {
-    let Formula::Not(a) = goal else { return Ok(None) };
+    let Formula::Not(a) = goal else {
+        return Ok(None)
+    };
     if i > 0 {
         return Ok(None);
     }
@@ -70,7 +82,11 @@ fn denied_by(goal: &Formula, i: usize) -> Result<Option<Shared<Formula>>, AllocE
 }
 
 /// For `classical`: the denial of the goal.
-fn denial_of(alloc: Global, goal: &Shared<Formula>, i: usize) -> Result<Option<Shared<Formula>>, AllocError>
+fn denial_of(
+    alloc: Global,
+    goal: &Shared<Formula>,
+    i: usize,
+) -> Result<Option<Shared<Formula>>, AllocError>
     ensures { IfOk result (λ more. option_to_list more ≡ slice_index_or ((Not goal.now ∷ []) ∷ []) i []) }
 {
     if i > 0 {

@@ -18,7 +18,13 @@ use ac_logic::{Formula, is_readable, is_readable_term};
 use ac_shared::Shared;
 use std::alloc::{AllocError, Global};
 
-pub fn is_step(alloc: Global, hyps: &[Shared<Formula>], rule: &Rule, goal: &Formula, premises: &[ProofTree]) -> Result<bool, AllocError>
+pub fn is_step(
+    alloc: Global,
+    hyps: &[Shared<Formula>],
+    rule: &Rule,
+    goal: &Formula,
+    premises: &[ProofTree],
+) -> Result<bool, AllocError>
     ensures { IfOk result (λ holds. IsTrue holds ↔ IsStep hyps.now rule.now goal.now (map goal_of premises.now)) }
 {
     if !is_readable(goal) || !has_readable_term(rule) {
@@ -36,7 +42,13 @@ fn has_readable_term(rule: &Rule) -> bool
     }
 }
 
-fn is_instance(alloc: Global, hyps: &[Shared<Formula>], rule: &Rule, goal: &Formula, premises: &[ProofTree]) -> Result<bool, AllocError>
+fn is_instance(
+    alloc: Global,
+    hyps: &[Shared<Formula>],
+    rule: &Rule,
+    goal: &Formula,
+    premises: &[ProofTree],
+) -> Result<bool, AllocError>
     ensures { IfOk result (λ holds. IsTrue holds ↔ IsInstance hyps.now rule.now goal.now (map goal_of premises.now)) }
 {
     match rule {

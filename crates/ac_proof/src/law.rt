@@ -9,5 +9,4 @@ ghost use Rattle.ac_proof.specs.Soundness.{Follows};
 /// ensures is the law.
 pub fn soundness()
     ensures { (hyps : List AnyFormula) (proof : AnyProof) → Checked hyps proof → Follows hyps (goal_of proof) }
-{
-}
+{}

@@ -13,16 +13,18 @@ mod check;
 mod context;
 mod fault;
 mod instance;
+mod law;
+mod linear;
 mod propositional;
 mod quantifier;
 mod rule;
-mod law;
-mod linear;
+#[cfg(test)]
+mod tests;
 mod tree;
 
 pub use certificate::{CertPart, Certificate, ProvedCondition};
 pub use check::check_proof;
 pub use fault::CheckFault;
-pub use rule::Rule;
 pub use law::soundness;
+pub use rule::Rule;
 pub use tree::{ProofTree, StepPath};

@@ -1,9 +1,8 @@
 //! The rule of linear combinations.
-ghost use Rattle.std.specs.Prelude.{◌≡◌, IsTrue, ◌↔◌, IfOk, map, [], ◌∷◌, Some, None, Err};
+ghost use Rattle.std.specs.Prelude.{◌≡◌, IsTrue, ◌↔◌, IfOk, map, [], ◌∷◌, Some};
 ghost use Rattle.ac_logic.specs.declared.formula.Formula.{Le};
 ghost use Rattle.ac_logic.specs.declared.formula.Term.TheVariants.{Sub};
 ghost use Rattle.ac_linear.specs.declared.linear.Linear.{Linear as AnyLinear};
-ghost use Rattle.ac_linear.specs.declared.fault.LinFault.TheVariants as LinFault;
 ghost use Rattle.ac_linear.specs.NormalForm.{and_then, normal_of};
 ghost use Rattle.ac_linear.specs.Combination.{combination_of};
 ghost use Rattle.ac_proof.specs.declared.rule.Rule.TheVariants as rule;
@@ -13,16 +12,23 @@ ghost use Rattle.ac_proof.specs.Rules.{IsInstance};
 ghost use Rattle.ac_proof.specs.Checked.{goal_of};
 
 use crate::tree::ProofTree;
-use ac_linear::{LinFault, Linear};
+use ac_linear::{LinFault, Linear, combine, normal};
 use ac_logic::{Formula, Term};
 use ac_shared::Shared;
 use sqlite_items::Items;
 use std::alloc::{AllocError, Global};
 
-pub fn is_linear(alloc: Global, factors: &[u64], goal: &Formula, premises: &[ProofTree]) -> Result<bool, AllocError>
+pub fn is_linear(
+    alloc: Global,
+    factors: &[u64],
+    goal: &Formula,
+    premises: &[ProofTree],
+) -> Result<bool, AllocError>
     ensures { IfOk result (λ holds. IsTrue holds ↔ IsInstance [] (rule.Linear factors.now) goal.now (map goal_of premises.now)) }
 {
-    let Some(facts) = facts_of(alloc, goal, premises)? else { return Ok(false) };
+    let Some(facts) = facts_of(alloc, goal, premises)? else {
+        return Ok(false)
+    };
     if factors.len() != facts.len() {
         return Ok(false);
     }
@@ -30,10 +36,16 @@ pub fn is_linear(alloc: Global, factors: &[u64], goal: &Formula, premises: &[Pro
 }
 
 /// The facts of a step; none where a formula is no fact, or too wide for one.
-fn facts_of(alloc: Global, goal: &Formula, premises: &[ProofTree]) -> Result<Option<Items<Linear>>, AllocError>
+fn facts_of(
+    alloc: Global,
+    goal: &Formula,
+    premises: &[ProofTree],
+) -> Result<Option<Items<Linear>>, AllocError>
     ensures { IfOk result (λ facts. facts ≡ facts_of_step goal.now (map goal_of premises.now)) }
 {
-    let Some(mut facts) = denial_of(alloc, goal)? else { return Ok(None) };
+    let Some(mut facts) = denial_of(alloc, goal)? else {
+        return Ok(None)
+    };
     if push_facts(alloc, &mut facts, premises)? {
         Ok(Some(facts))
     } else {
@@ -53,19 +65,29 @@ fn denial_of(alloc: Global, goal: &Formula) -> Result<Option<Items<Linear>>, All
 }
 
 /// The fact `t + 1 <= s`, alone.
-fn denial_of_order(alloc: Global, s: &Shared<Term>, t: &Shared<Term>) -> Result<Option<Items<Linear>>, AllocError>
+fn denial_of_order(
+    alloc: Global,
+    s: &Shared<Term>,
+    t: &Shared<Term>,
+) -> Result<Option<Items<Linear>>, AllocError>
     ensures { IfOk result (λ facts. facts ≡ facts_behind [] (Le (next t.now) s.now ∷ [])) }
 {
     let one = Shared::new(alloc, Term::Num(1))?;
     let above = Shared::new(alloc, Term::Add(t.share()?, one))?;
-    let Some(fact) = difference(alloc, &above, s)? else { return Ok(None) };
+    let Some(fact) = difference(alloc, &above, s)? else {
+        return Ok(None)
+    };
     let mut facts = Items::new(alloc);
     facts.push(fact)?;
     Ok(Some(facts))
 }
 
 /// Pushes the facts of the premises. False says that one is no fact, or too wide.
-fn push_facts(alloc: Global, facts: &mut Items<Linear>, premises: &[ProofTree]) -> Result<bool, AllocError>
+fn push_facts(
+    alloc: Global,
+    facts: &mut Items<Linear>,
+    premises: &[ProofTree],
+) -> Result<bool, AllocError>
     ensures { IfOk result (λ all. some_if all facts.new ≡ facts_behind facts.old (map goal_of premises.now)) }
 {
     for p in premises {
@@ -77,17 +99,29 @@ fn push_facts(alloc: Global, facts: &mut Items<Linear>, premises: &[ProofTree]) 
 }
 
 /// Pushes the fact of a formula.
-fn push_fact(alloc: Global, facts: &mut Items<Linear>, formula: &Formula) -> Result<bool, AllocError>
+fn push_fact(
+    alloc: Global,
+    facts: &mut Items<Linear>,
+    formula: &Formula,
+) -> Result<bool, AllocError>
     ensures { IfOk result (λ pushed. some_if pushed facts.new ≡ facts_behind facts.old (formula.now ∷ [])) }
 {
-    let Formula::Le(u, v) = formula else { return Ok(false) };
-    let Some(fact) = difference(alloc, u, v)? else { return Ok(false) };
+    let Formula::Le(u, v) = formula else {
+        return Ok(false)
+    };
+    let Some(fact) = difference(alloc, u, v)? else {
+        return Ok(false)
+    };
     facts.push(fact)?;
     Ok(true)
 }
 
 /// The normal form of u - v; none where it is too wide.
-fn difference(alloc: Global, u: &Shared<Term>, v: &Shared<Term>) -> Result<Option<Linear>, AllocError>
+fn difference(
+    alloc: Global,
+    u: &Shared<Term>,
+    v: &Shared<Term>,
+) -> Result<Option<Linear>, AllocError>
     ensures { IfOk result (λ form. form ≡ normal_of (Sub u.now v.now)) }
 {
     let difference = Shared::new(alloc, Term::Sub(u.share()?, v.share()?))?;
@@ -113,18 +147,4 @@ fn is_contradiction(sum: &Linear) -> bool
     ensures { IsTrue result ↔ IsContradiction sum.now }
 {
     sum.parts.is_empty() && sum.constant > 0
-}
-
-fn normal(alloc: Global, term: &Term) -> Result<Linear, LinFault>
-    ensures ok { IfOk result (λ l. normal_of term.now ≡ Some l) }
-    ensures wide { result ≡ Err LinFault.Wide → normal_of term.now ≡ None }
-{
-    Err(LinFault::OutOfMemory)
-}
-
-fn combine(alloc: Global, facts: &[Linear], factors: &[u64]) -> Result<Linear, LinFault>
-    ensures ok { IfOk result (λ l. combination_of facts.now factors.now ≡ Some l) }
-    ensures wide { result ≡ Err LinFault.Wide → combination_of facts.now factors.now ≡ None }
-{
-    Err(LinFault::OutOfMemory)
 }

@@ -36,7 +36,9 @@ pub fn is_false_elim(goal: &Formula, premises: &[ProofTree]) -> bool
 pub fn is_and_intro(goal: &Formula, premises: &[ProofTree]) -> bool
     ensures { IsTrue result ↔ IsInstance [] AndIntro goal.now (map goal_of premises.now) }
 {
-    let Formula::And(a, b) = goal else { return false };
+    let Formula::And(a, b) = goal else {
+        return false
+    };
     let [p, q] = premises else { return false };
     same(p.goal.get(), a.get()) && same(q.goal.get(), b.get())
 }
@@ -45,7 +47,9 @@ pub fn is_and_left(goal: &Formula, premises: &[ProofTree]) -> bool
     ensures { IsTrue result ↔ IsInstance [] AndLeft goal.now (map goal_of premises.now) }
 {
     let [p] = premises else { return false };
-    let Formula::And(a, _) = p.goal.get() else { return false };
+    let Formula::And(a, _) = p.goal.get() else {
+        return false
+    };
     same(goal, a.get())
 }
 
@@ -53,14 +57,18 @@ pub fn is_and_right(goal: &Formula, premises: &[ProofTree]) -> bool
     ensures { IsTrue result ↔ IsInstance [] AndRight goal.now (map goal_of premises.now) }
 {
     let [p] = premises else { return false };
-    let Formula::And(_, b) = p.goal.get() else { return false };
+    let Formula::And(_, b) = p.goal.get() else {
+        return false
+    };
     same(goal, b.get())
 }
 
 pub fn is_or_left(goal: &Formula, premises: &[ProofTree]) -> bool
     ensures { IsTrue result ↔ IsInstance [] OrLeft goal.now (map goal_of premises.now) }
 {
-    let Formula::Or(a, _) = goal else { return false };
+    let Formula::Or(a, _) = goal else {
+        return false
+    };
     let [p] = premises else { return false };
     same(p.goal.get(), a.get())
 }
@@ -68,7 +76,9 @@ pub fn is_or_left(goal: &Formula, premises: &[ProofTree]) -> bool
 pub fn is_or_right(goal: &Formula, premises: &[ProofTree]) -> bool
     ensures { IsTrue result ↔ IsInstance [] OrRight goal.now (map goal_of premises.now) }
 {
-    let Formula::Or(_, b) = goal else { return false };
+    let Formula::Or(_, b) = goal else {
+        return false
+    };
     let [p] = premises else { return false };
     same(p.goal.get(), b.get())
 }
@@ -77,14 +87,18 @@ pub fn is_or_elim(goal: &Formula, premises: &[ProofTree]) -> bool
     ensures { IsTrue result ↔ IsInstance [] OrElim goal.now (map goal_of premises.now) }
 {
     let [p, q, r] = premises else { return false };
-    let Formula::Or(_, _) = p.goal.get() else { return false };
+    let Formula::Or(_, _) = p.goal.get() else {
+        return false
+    };
     same(q.goal.get(), goal) && same(r.goal.get(), goal)
 }
 
 pub fn is_implies_intro(goal: &Formula, premises: &[ProofTree]) -> bool
     ensures { IsTrue result ↔ IsInstance [] ImpliesIntro goal.now (map goal_of premises.now) }
 {
-    let Formula::Implies(_, b) = goal else { return false };
+    let Formula::Implies(_, b) = goal else {
+        return false
+    };
     let [p] = premises else { return false };
     same(p.goal.get(), b.get())
 }
@@ -93,7 +107,9 @@ pub fn is_implies_elim(goal: &Formula, premises: &[ProofTree]) -> bool
     ensures { IsTrue result ↔ IsInstance [] ImpliesElim goal.now (map goal_of premises.now) }
 {
     let [p, q] = premises else { return false };
-    let Formula::Implies(a, b) = p.goal.get() else { return false };
+    let Formula::Implies(a, b) = p.goal.get() else {
+        return false
+    };
     same(goal, b.get()) && same(q.goal.get(), a.get())
 }
 
@@ -110,7 +126,9 @@ pub fn is_not_elim(goal: &Formula, premises: &[ProofTree]) -> bool
 {
     let Formula::False = goal else { return false };
     let [p, q] = premises else { return false };
-    let Formula::Not(a) = p.goal.get() else { return false };
+    let Formula::Not(a) = p.goal.get() else {
+        return false
+    };
     same(q.goal.get(), a.get())
 }
 
@@ -124,7 +142,9 @@ pub fn is_classical(goal: &Formula, premises: &[ProofTree]) -> bool
 pub fn is_lab_intro(goal: &Formula, premises: &[ProofTree]) -> bool
     ensures { IsTrue result ↔ IsInstance [] LabIntro goal.now (map goal_of premises.now) }
 {
-    let Formula::Lab(_, a) = goal else { return false };
+    let Formula::Lab(_, a) = goal else {
+        return false
+    };
     let [p] = premises else { return false };
     same(p.goal.get(), a.get())
 }
@@ -133,6 +153,8 @@ pub fn is_lab_elim(goal: &Formula, premises: &[ProofTree]) -> bool
     ensures { IsTrue result ↔ IsInstance [] LabElim goal.now (map goal_of premises.now) }
 {
     let [p] = premises else { return false };
-    let Formula::Lab(_, a) = p.goal.get() else { return false };
+    let Formula::Lab(_, a) = p.goal.get() else {
+        return false
+    };
     same(goal, a.get())
 }

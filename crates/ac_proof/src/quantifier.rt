@@ -15,10 +15,18 @@ use ac_logic::{Formula, Sym, Term, is_absent, is_term_closed, open_body, same};
 use ac_shared::Shared;
 use std::alloc::{AllocError, Global};
 
-pub fn is_all_intro(alloc: Global, hyps: &[Shared<Formula>], k: u32, goal: &Formula, premises: &[ProofTree]) -> Result<bool, AllocError>
+pub fn is_all_intro(
+    alloc: Global,
+    hyps: &[Shared<Formula>],
+    k: u32,
+    goal: &Formula,
+    premises: &[ProofTree],
+) -> Result<bool, AllocError>
     ensures { IfOk result (λ holds. IsTrue holds ↔ IsInstance hyps.now (AllIntro k) goal.now (map goal_of premises.now)) }
 {
-    let Formula::All(a) = goal else { return Ok(false) };
+    let Formula::All(a) = goal else {
+        return Ok(false)
+    };
     let [p] = premises else { return Ok(false) };
     if !is_new(k, hyps, goal) {
         return Ok(false);
@@ -47,10 +55,17 @@ fn is_absent_in_all(name: &Sym, formulas: &[Shared<Formula>]) -> bool
     true
 }
 
-pub fn is_all_elim(alloc: Global, t: &Shared<Term>, goal: &Formula, premises: &[ProofTree]) -> Result<bool, AllocError>
+pub fn is_all_elim(
+    alloc: Global,
+    t: &Shared<Term>,
+    goal: &Formula,
+    premises: &[ProofTree],
+) -> Result<bool, AllocError>
     ensures { IfOk result (λ holds. IsTrue holds ↔ IsInstance [] (AllElim t.now) goal.now (map goal_of premises.now)) }
 {
-    let Some(a) = body_of(premises) else { return Ok(false) };
+    let Some(a) = body_of(premises) else {
+        return Ok(false)
+    };
     let opening = open_body(alloc, a, t)?;
     Ok(is_opening(goal, &opening, a, t))
 }
@@ -61,11 +76,18 @@ fn body_of(premises: &[ProofTree]) -> Option<&Shared<Formula>>
     ensures none { IfNone result ((a : AnyFormula) → map goal_of premises.now ≡ All a ∷ [] → ⊥) }
 {
     let [p] = premises else { return None };
-    let Formula::All(a) = p.goal.get() else { return None };
+    let Formula::All(a) = p.goal.get() else {
+        return None
+    };
     Some(a)
 }
 
-fn is_opening(goal: &Formula, opening: &Shared<Formula>, a: &Shared<Formula>, t: &Shared<Term>) -> bool
+fn is_opening(
+    goal: &Formula,
+    opening: &Shared<Formula>,
+    a: &Shared<Formula>,
+    t: &Shared<Term>,
+) -> bool
     requires { opening.now ≡ opened t.now a.now }
     ensures { IsTrue result ↔ ((goal.now ≡ opened t.now a.now) × IsTermClosed t.now) }
 {

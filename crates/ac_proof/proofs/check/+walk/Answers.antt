@@ -11,7 +11,7 @@ use Rattle.ac_proof.proofs.check.+walk.Goals as goal
 pub walk-returns-then-not-branch-clause-walked : goal.walk-returns-then-not-branch-clause-walked
 walk-returns-then-not-branch-clause-walked t c =
     let fails : IsStepOf c.args.hyps.now.items c.args.tree.now → ⊥ = λ s.
-        let q : c.in_ok-is_step.field-0 ≡ true = c.in_ok-is_step.ensures.1 (rw (c.as_slice.ensures.value, c.get.ensures, c.as_slice-premises.ensures) s) in cc in
+    let q : c.in_ok-is_step.field-0 ≡ true = c.in_ok-is_step.ensures.1 (rw (c.as_slice.ensures.value, c.get.ensures, c.as_slice-premises.ensures) s) in cc in
     ([], fault_here c.args.hyps.now.items c.args.tree.now fails, sym (append-nil c.args.path.now.items))
 
 pub walk-returns-then-not-branch-2-clause-walked : goal.walk-returns-then-not-branch-2-clause-walked
@@ -36,15 +36,17 @@ walk_premise-returns-then-branch t c =
     let n : c.len-known.result ≡ length c.args.hyps.now.items = search rules in
     let m : c.len-depth.result ≡ length c.args.path.now.items = search rules in
     let h : c.walk.new.hyps.items ≡ c.args.hyps.now.items ++ added (out-ProofTree c.args.tree.now).rule (out-ProofTree c.args.tree.now).goal (map goal_of (out-ProofTree c.args.tree.now).premises) c.args.i = c.in_ok-walk.ensures.hyps q ∙ c.in_ok-push_added.ensures in
-    let p : c.walk.new.path.items ≡ c.args.path.now.items ++ c.args.i ∷ [] = w.1 ∙ c.in_ok-push_place.ensures in
-    (c.truncate-then-branch.ensures.items ∙ (rw (n, h) (take-append_seam c.args.hyps.now.items _)),
-     c.truncate.ensures.items ∙ (rw (m, p) (take-append_seam c.args.path.now.items _)),
-     λ u e. subst (λ hs. Checked hs u) c.in_ok-push_added.ensures (subst (Checked c.push_added.new.hyps.items) (item_is c.index-premises-i.result u c.as_slice-premises.result.now _ c.args.i c.index-premises-i.is c.as_slice-premises.ensures e) w.0))
+    let p : c.walk.new.path.items ≡ c.args.path.now.items ++ c.args.i ∷ [] = w.1 ∙ c.in_ok-push_place.ensures in (
+      c.truncate-then-branch.ensures.items ∙ (rw (n, h) (take-append_seam c.args.hyps.now.items _)),
+      c.truncate.ensures.items ∙ (rw (m, p) (take-append_seam c.args.path.now.items _)),
+      λ u e. subst (λ hs. Checked hs u) c.in_ok-push_added.ensures (subst (Checked c.push_added.new.hyps.items) (item_is c.index-premises-i.result u c.as_slice-premises.result.now _ c.args.i c.index-premises-i.is c.as_slice-premises.ensures e) w.0),
+    )
 
 pub walk_premise-returns-else-branch : goal.walk_premise-returns-else-branch
 walk_premise-returns-else-branch t c =
     let q : c.in_ok-walk.field-0 ≡ false = c.if-branch.false in
-    let w : Walked c.push_added.new.hyps.items c.index-premises-i.result c.push_place.new.path.items c.walk.new.path.items false = rw q at c.in_ok-walk.ensures.walked in
-    (w.0,
-     w.2 ∙ (ap (λ x. x ++ w.0) c.in_ok-push_place.ensures ∙ append_assoc c.args.path.now.items (c.args.i ∷ []) w.0),
-     λ u e. subst (λ hs. IsFirstFault hs u w.0) c.in_ok-push_added.ensures (subst (λ u. IsFirstFault c.push_added.new.hyps.items u w.0) (item_is c.index-premises-i.result u c.as_slice-premises.result.now _ c.args.i c.index-premises-i.is c.as_slice-premises.ensures e) w.1))
+    let w : Walked c.push_added.new.hyps.items c.index-premises-i.result c.push_place.new.path.items c.walk.new.path.items false = rw q at c.in_ok-walk.ensures.walked in (
+      w.0,
+      w.2 ∙ (ap (λ x. x ++ w.0) c.in_ok-push_place.ensures ∙ append_assoc c.args.path.now.items (c.args.i ∷ []) w.0),
+      λ u e. subst (λ hs. IsFirstFault hs u w.0) c.in_ok-push_added.ensures (subst (λ u. IsFirstFault c.push_added.new.hyps.items u w.0) (item_is c.index-premises-i.result u c.as_slice-premises.result.now _ c.args.i c.index-premises-i.is c.as_slice-premises.ensures e) w.1),
+    )

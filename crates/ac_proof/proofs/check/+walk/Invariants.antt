@@ -7,5 +7,5 @@ abbrev pub invariant-walk-loop-i : goal.invariant-walk-loop-i
 invariant-walk-loop-i l = record {
   same_hyps : l.hyps.items ≡ l.initial.hyps.items;
   same_path : l.path.items ≡ l.initial.path.items;
-  below : (k : ℕ) → k < l.i → PremiseIs l.initial.hyps.items l.tree k Checked
+  below : (k : ℕ) → k < l.i → PremiseIs l.initial.hyps.items l.tree k Checked;
 }

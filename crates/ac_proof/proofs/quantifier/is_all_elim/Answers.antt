@@ -6,6 +6,7 @@ use Rattle.ac_proof.proofs.quantifier.is_all_elim.Goals as goal
 
 pub returns : goal.returns
 returns c =
-    let m : map goal_of c.args.premises.now ≡ All c.in-Some.a.now ∷ [] = c.in-Some.ensures.some in
-    (λ y. let h = c.is_opening.ensures.0 y in (c.in-Some.a.now, h.0, m, h.1),
-     λ s. let e = all_one s.0 c.in-Some.a.now (map goal_of c.args.premises.now) s.2 m in c.is_opening.ensures.1 (rw e at s.1, s.3))
+    let m : map goal_of c.args.premises.now ≡ All c.in-Some.a.now ∷ [] = c.in-Some.ensures.some in (
+      λ y. let h = c.is_opening.ensures.0 y in (c.in-Some.a.now, h.0, m, h.1),
+      λ s. let e = all_one s.0 c.in-Some.a.now (map goal_of c.args.premises.now) s.2 m in c.is_opening.ensures.1 (rw e at s.1, s.3),
+    )
