@@ -5,9 +5,8 @@
 #![tactic(auto)]
 
 use ac_io::{HostFiles, HostOut};
-use std::env;
-use std::io;
 use std::process::ExitCode;
+use std::{env, io};
 
 /// The exit code where memory for the words is refused.
 const NO_MEMORY: u8 = 8;
