@@ -32,24 +32,24 @@ use Rattle.ac_engine.specs.Sites.{unproved}
 use Rattle.ac_engine.specs.Names.{AreDeclared, AreNamed, Entries, entries_of, extent_in, is_above, is_inside, outside}
 use Rattle.ac_engine.proofs.Readings.{map-both}
 
-abbrev names_of : List Item → List Word
+abbrev pub names_of : List Item → List Word
 names_of items = map (λ d. d.name) items
 
-none_in : {A : Type 0} (x : A) → Contains [] x → ⊥
+pub none_in : {A : Type 0} (x : A) → Contains [] x → ⊥
 none_in x c = absurd (omega (arith, c.1))
 
-head_or_tail : {A : Type 0} (y : A) (xs : List A) (x : A) → Contains (y ∷ xs) x → (y ≡ x) ⊎ Contains xs x
+pub head_or_tail : {A : Type 0} (y : A) (xs : List A) (x : A) → Contains (y ∷ xs) x → (y ≡ x) ⊎ Contains xs x
 head_or_tail y xs x (zero, low, e) = inl e
 head_or_tail y xs x (suc k, low, e) = inr (k, omega arith, e)
 
-at_head : {A : Type 0} (y : A) (xs : List A) (x : A) → y ≡ x → Contains (y ∷ xs) x
+pub at_head : {A : Type 0} (y : A) (xs : List A) (x : A) → y ≡ x → Contains (y ∷ xs) x
 at_head y xs x e = (0, omega arith, e)
 
-in_tail : {A : Type 0} (y : A) (xs : List A) (x : A) → Contains xs x → Contains (y ∷ xs) x
+pub in_tail : {A : Type 0} (y : A) (xs : List A) (x : A) → Contains xs x → Contains (y ∷ xs) x
 in_tail y xs x c = (suc c.0, omega (arith, c.1), c.2)
 
 -- a name that is declared already can't be declared once more
-not_distinct : (xs ys : List Word) (y : Word) → Contains xs y → AreDistinct (xs ++ y ∷ ys) → ⊥
+pub not_distinct : (xs ys : List Word) (y : Word) → Contains xs y → AreDistinct (xs ++ y ∷ ys) → ⊥
 not_distinct [] ys y c d = none_in y c
 not_distinct (x ∷ xs) ys y c d =
     ⊎_elim (λ e. d.0 (Contains-append_right xs (y ∷ ys) x (at_head y ys x (sym e)))) (λ rest. not_distinct xs ys y rest d.1) (head_or_tail x xs y c)
@@ -194,11 +194,11 @@ put_at body i st low e all = subst (λ (s : Stmt). IsPut s) (sym e) (All-get_or 
 
 -- a straight program
 
-names_map : (items : List Item) → map (λ d. d.name) (map declaration_of items) ≡ names_of items
+pub names_map : (items : List Item) → map (λ d. d.name) (map declaration_of items) ≡ names_of items
 names_map [] = refl
 names_map (d ∷ ds) = ap (λ (ns : List Word). d.name ∷ ns) (names_map ds)
 
-All-unmap : {X Y : Type 0} (P : X → Type 0) (f : Y → X) (ys : List Y) → All P (map f ys) → All (λ y. P (f y)) ys
+pub All-unmap : {X Y : Type 0} (P : X → Type 0) (f : Y → X) (ys : List Y) → All P (map f ys) → All (λ y. P (f y)) ys
 All-unmap P f [] all = All-nil (λ y. P (f y))
 All-unmap P f (y ∷ ys) all = All-cons (λ y. P (f y)) y ys (All-head P (f y) (map f ys) all) (All-unmap P f ys (All-tail P (f y) (map f ys) all))
 

@@ -37,6 +37,7 @@ use Rattle.ac_io.specs.Written.{Adds}
 use Rattle.ac_engine.specs.Sites.{unproved, conditions}
 use Rattle.ac_engine.specs.Words.{Names, Asks, HasNoForm}
 use Rattle.ac_engine.proofs.Readings.{same_declarations, same_assignments, begins_no_declaration, ends_no_assignment}
+use Rattle.ac_engine.proofs.Rules.{breaks_no_rule}
 
 pub not_cut : (bytes : List ℕ) → IsCutByNone bytes → IsNotBuilt bytes
 not_cut bytes none p b = none b.tokens (record { short = b.short; cut = b.cut; small = b.small })
@@ -62,7 +63,8 @@ spells_one bytes p nodes b = record {
   spelled = record { tokens = b.tokens; cut = b.cut.cut; tree = b.read.tree; spelled = b.read.spelled; numbers = b.read.numbers };
   only = λ other s.
       s.numbers ∙ ap numbered_program (one_program (subst (λ (ts : Tokens). SpellsProgram s.tree ts) (cut_once s.cut b.cut.cut) s.spelled) b.read.spelled) ∙ sym b.read.numbers;
-  built = record { short = b.cut.short; tokens = b.tokens; cut = b.cut.cut; small = b.cut.small; form = b.read.form; declared_ = b.declared_; limits = b.read.limits };
+  well_formed = breaks_no_rule p b.read.straight_ b.declared_;
+    built = record { short = b.cut.short; tokens = b.tokens; cut = b.cut.cut; small = b.cut.small; form = b.read.form; declared_ = b.declared_; limits = b.read.limits };
 }
 
 all_within : (p : Program) (body : List Stmt) → map (λ st. st.node) (filter (λ st. not (is_write_within p st.kind)) body) ≡ [] → All (λ st. IsTrue (is_write_within p st.kind)) body
