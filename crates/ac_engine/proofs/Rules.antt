@@ -52,7 +52,7 @@ unfolding IsVector
 kind_found [] x arrays c = absurd (none_in x c)
 kind_found (d ∷ ds) x arrays c =
     found_case (bytes_eq d.name x) d (kind_in ds x) (All-head IsArray d ds arrays)
-      (λ e. ⊎_elim (λ same. absurd (false≢true (sym e ∙ (bytes_eq-Decides d.name x).1 same))) (kind_found ds x (All-tail IsArray d ds arrays)) (head_or_tail d.name (names_of ds) x c))
+    (λ e. ⊎_elim (λ same. absurd (false≢true (sym e ∙ (bytes_eq-Decides d.name x).1 same))) (kind_found ds x (All-tail IsArray d ds arrays)) (head_or_tail d.name (names_of ds) x c))
 
 none_broken : (at : NodeId) (b c : Bool) → b ≡ false → c ≡ false → broken at ((1, b) ∷ (2, false) ∷ (7, false) ∷ (8, c || false) ∷ []) ≡ []
 none_broken at true c e f = cc
@@ -76,9 +76,9 @@ items_clean before [] distinct arrays large = refl
 items_clean before (d ∷ ds) distinct arrays large =
     let new : is_declared before d.name ≡ false = ap is_some (kind_missing before d.name (λ c. not_distinct (names_of before) (names_of ds) d.name c distinct)) in
     let names : names_of before ++ d.name ∷ names_of ds ≡ names_of (before ++ d ∷ []) ++ names_of ds =
-      sym (append_assoc (names_of before) (d.name ∷ []) (names_of ds)) ∙ ap (λ (ns : List Word). ns ++ names_of ds) (sym (map-both (λ (i : Item). i.name) before (d ∷ []))) in
+    sym (append_assoc (names_of before) (d.name ∷ []) (names_of ds)) ∙ ap (λ (ns : List Word). ns ++ names_of ds) (sym (map-both (λ (i : Item). i.name) before (d ∷ []))) in
     both_empty (item_faults before d) _ (item_clean before d (All-head IsArray d ds arrays) new (All-head (λ (d : Item). 1 ≤ extent_of d.kind) d ds large))
-      (items_clean (before ++ d ∷ []) ds (subst (λ (ns : List Word). AreDistinct ns) names distinct) (All-tail IsArray d ds arrays) (All-tail (λ (d : Item). 1 ≤ extent_of d.kind) d ds large))
+    (items_clean (before ++ d ∷ []) ds (subst (λ (ns : List Word). AreDistinct ns) names distinct) (All-tail IsArray d ds arrays) (All-tail (λ (d : Item). 1 ≤ extent_of d.kind) d ds large))
 
 literal_clean : (ds : List Item) (at : NodeId) (k : ExprKind) → is_literal k ≡ true → expr_faults ds at k ≡ []
 unfolding hidden expr_shape expr_child
@@ -95,13 +95,13 @@ body_clean : (ds : List Item) (body : List Stmt) → All IsArray ds → All IsPu
 body_clean ds [] arrays puts named = refl
 body_clean ds (st ∷ body) arrays puts named =
     both_empty (stmt_faults ds [] st.node.id st.kind) _
-      (stmt_clean ds st.node.id st.kind (All-head IsPut st body puts) (kind_found ds (assignment_of st).name arrays (All-head (λ (st : Stmt). Contains (names_of ds) (assignment_of st).name) st body named)))
-      (body_clean ds body arrays (All-tail IsPut st body puts) (All-tail (λ (st : Stmt). Contains (names_of ds) (assignment_of st).name) st body named))
+    (stmt_clean ds st.node.id st.kind (All-head IsPut st body puts) (kind_found ds (assignment_of st).name arrays (All-head (λ (st : Stmt). Contains (names_of ds) (assignment_of st).name) st body named)))
+    (body_clean ds body arrays (All-tail IsPut st body puts) (All-tail (λ (st : Stmt). Contains (names_of ds) (assignment_of st).name) st body named))
 
 pub breaks_no_rule : (p : Program) → IsStraightTree p → IsDeclared (straight_of p) → Accepted p
 breaks_no_rule p straight d =
     let names = names_map p.items in
     both_empty (items_faults [] p.items) (list_faults p.items [] p.body)
-      (items_clean [] p.items (subst (λ (ns : List Word). AreDistinct ns) names d.once) straight.arrays (All-unmap (λ (d : Declaration). 1 ≤ d.extent) declaration_of p.items d.extents))
-      (body_clean p.items p.body straight.arrays straight.puts
-        (subst (λ (ns : List Word). All (λ st. Contains ns (assignment_of st).name) p.body) names (All-unmap (λ (a : Assignment). Contains (declared (straight_of p)) a.name) assignment_of p.body d.written)))
+    (items_clean [] p.items (subst (λ (ns : List Word). AreDistinct ns) names d.once) straight.arrays (All-unmap (λ (d : Declaration). 1 ≤ d.extent) declaration_of p.items d.extents))
+    (body_clean p.items p.body straight.arrays straight.puts
+    (subst (λ (ns : List Word). All (λ st. Contains ns (assignment_of st).name) p.body) names (All-unmap (λ (a : Assignment). Contains (declared (straight_of p)) a.name) assignment_of p.body d.written)))

@@ -64,7 +64,7 @@ spells_one bytes p nodes b = record {
   only = λ other s.
       s.numbers ∙ ap numbered_program (one_program (subst (λ (ts : Tokens). SpellsProgram s.tree ts) (cut_once s.cut b.cut.cut) s.spelled) b.read.spelled) ∙ sym b.read.numbers;
   well_formed = breaks_no_rule p b.read.straight_ b.declared_;
-    built = record { short = b.cut.short; tokens = b.tokens; cut = b.cut.cut; small = b.cut.small; form = b.read.form; declared_ = b.declared_; limits = b.read.limits };
+  built = record { short = b.cut.short; tokens = b.tokens; cut = b.cut.cut; small = b.cut.small; form = b.read.form; declared_ = b.declared_; limits = b.read.limits };
 }
 
 all_within : (p : Program) (body : List Stmt) → map (λ st. st.node) (filter (λ st. not (is_write_within p st.kind)) body) ≡ [] → All (λ st. IsTrue (is_write_within p st.kind)) body

@@ -1,4 +1,5 @@
 -- From bytes to a program that is built.
+-- No promise rests on this file: it says what the code keeps on the way.
 use Rattle.std.specs.Prelude.{◌≡◌, ℕ, ◌≤◌, List, length}
 use Rattle.ac_tree.specs.declared.node.Node.{Node}
 use Rattle.ac_tree.specs.declared.program.Program.{Program}

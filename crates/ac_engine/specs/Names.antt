@@ -1,4 +1,5 @@
 -- The table of extents by name.
+-- No promise rests on this file: it says what the code keeps on the way.
 use Rattle.std.specs.Prelude.{◌≡◌, ℕ, ◌≤◌, Bool, true, false, not, List, [], ◌∷◌, map, filter, All, Contains, IsSome, Option, Some, None, nat_lt}
 use Rattle.std.specs.Map.{lookup}
 use Rattle.std.specs.Str.{bytes_eq}

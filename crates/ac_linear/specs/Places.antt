@@ -1,4 +1,5 @@
 -- Where a part goes among others, by index, and what the list is then.
+-- No promise rests on this file: it says what the code keeps on the way.
 use Rattle.std.specs.Prelude.{ℕ, suc, ◌<◌, ◌≤◌, ℤ, pos, ◌+ℤ◌, List, [], ◌∷◌, if◌then◌else◌, Option, Some, option_map, insert, remove, slice_set, slice_index_or}
 use Rattle.std.specs.Ordering.{int_eq}
 use Rattle.ac_linear.specs.declared.entry.Entry.{Entry}

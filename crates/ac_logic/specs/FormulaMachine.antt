@@ -1,4 +1,5 @@
 -- Reading formula text token by token, with a stack of what stands around.
+-- No promise rests on this file: it says what the code keeps on the way.
 use Rattle.std.specs.Prelude.{◌≡◌, ℕ, zero, suc, ℤ, pos, List, [], ◌∷◌, Option, Some, None, Bool, true, false, Result, Ok, Err}
 use Rattle.ac_logic.specs.declared.label.Label.{Label}
 use Rattle.ac_logic.specs.declared.label.LabelKind.{LabelKind}

@@ -1,4 +1,5 @@
 -- Where a reader of formula text stands.
+-- No promise rests on this file: it says what the code keeps on the way.
 use Rattle.std.specs.Prelude.{◌≡◌, List, ℕ, ◌++◌, []}
 use Rattle.ac_logic.specs.declared.reader.State.{State}
 use Rattle.ac_logic.specs.FormulaText.{Tokens, Goal}

@@ -1,4 +1,5 @@
 -- How many enclosing `all` the `Bound`s of a tree reach over: inside so many, none is loose.
+-- No promise rests on this file: it says what the code keeps on the way.
 use Rattle.std.specs.Prelude.{ℕ, ◌+◌, ◌-◌, max}
 use Rattle.ac_logic.specs.declared.formula.Term.{Term, Num, Bound}
 use Rattle.ac_logic.specs.declared.formula.ArrayTerm.{ArrayTerm}

@@ -1,4 +1,5 @@
 -- Reading a condition token by token, with a stack of open braces. An expression in it is read by the machine of expressions.
+-- No promise rests on this file: it says what the code keeps on the way.
 use Rattle.std.specs.Prelude.{List, [], ◌∷◌, Option, Some, None, Bool, true, false}
 use Rattle.ac_tree.specs.declared.node.Span.{Span}
 use Rattle.ac_tree.specs.declared.program.Cond.{Cond}

@@ -1,4 +1,5 @@
 -- Reading statements token by token, with a stack of open statements.
+-- No promise rests on this file: it says what the code keeps on the way.
 use Rattle.std.specs.Prelude.{List, [], ◌∷◌, ◌++◌, Option, Some, None, Bool, true, false}
 use Rattle.ac_tree.specs.declared.node.Span.{Span}
 use Rattle.ac_tree.specs.declared.program.Cond.{Cond}

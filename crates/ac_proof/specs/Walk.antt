@@ -1,4 +1,5 @@
 -- What the walk over a proof answers, and what it leaves in the path and the hypotheses.
+-- No promise rests on this file: it says what the code keeps on the way.
 use Rattle.std.specs.Prelude.{◌≡◌, ℕ, List, ◌∷◌, ◌++◌, Bool, true, false, Some, slice_get, map}
 use Rattle.ac_logic.specs.declared.formula.Formula.{Formula}
 use Rattle.ac_proof.specs.declared.tree.ProofTree.{ProofTree, out-ProofTree}
