@@ -1,5 +1,6 @@
 use crate::autocert;
 use ac_io::{MemFiles, MemSink};
+use ac_tree::Name;
 use std::alloc::{AllocError, Global};
 use std::fmt::Write;
 use std::process::Abort;
@@ -256,5 +257,12 @@ fn each_limit_is_allowed_and_one_more_is_not(rt: HostRuntime) -> Result<(), Fail
             "{declarations} declarations, {assignments} assignments"
         );
     }
+    Ok(())
+}
+
+#[test]
+fn a_name_has_the_text_that_it_was_made_of(rt: HostRuntime) -> Result<(), Fail> {
+    let name = Name::new(rt.alloc(), "a")?;
+    assert_eq!(rt; name.text(), "a");
     Ok(())
 }
