@@ -24,7 +24,7 @@ use Rattle.ac_logic.specs.Patterns.{Scalar, Array, ReadOf, Sum, Difference, Prod
 use Rattle.ac_logic.specs.Opened.{hidden, formula_shape, formula_child, term_shape, term_child, array_shape, array_child}
 use Rattle.ac_logic.specs.FormulaText as text
 use Rattle.ac_logic.specs.FormulaText.{Tokens, Names, place_of, number_of, short_of, kind_of, related, TermLevel, Whole, Prod, Fac, Atom, SpellsTerm, SpellsArray, FormulaLevel, Full, Disj, Conj, Neg, Part, SpellsFormula, Goal, Terms, Formulas, Tree, IsTextOf}
-use Rattle.ac_logic.specs.FormulaMachine.{Stack, Machine, if_some, names_of, signed, multiplied, added, pending, fresh, atom_read, number_read, denied, joined, either, before, unbound, part_read, closed, following, in_index, at_paren, at_bracket, at_comma, at_relation, having, term_ends, wanting, at_minus, array_begins, fresh_read, at_open_paren, at_open_brace, init_named, put_begins, put_named, symbol_ends, array_named, array_read, part_begins, all_named, node_named, stepped, term_so_far, ended_term, implied, relation_ended, ended_formula, ended, begun, whole, reads}
+use Rattle.ac_logic.specs.FormulaMachine.{Stack, Machine, if_some, names_of, signed, multiplied, added, pending, fresh, atom_read, number_read, denied, joined, either, before, unbound, part_read, closed, following, in_index, at_paren, at_bracket, at_comma, at_relation, having, term_ends, wanting, at_minus, array_begins, fresh_read, at_open_paren, at_open_brace, init_named, put_begins, put_named, symbol_ends, array_named, array_read, part_begins, all_named, node_named, stepped, term_so_far, ended_term, implied, relation_top, relation_ended, ended_formula, ended, begun, whole, reads}
 
 -- what has been read, by each part of the machine: from the tokens ts, with rest behind
 abbrev pub InSum : Names → Adding → Tokens → Tokens → Type 0
@@ -373,10 +373,14 @@ implied_has _ f ts us h d = tt
 conj_ended : (k : Stack) (o : Option Formula) (f : Formula) (ts : Tokens) → Has Formulas k (state.Conj o f) ts [] → IsSpelledBy Formulas (whole (implied k (either o f))) ts
 conj_ended k o f ts h = implied_has k (either o f) ts h.0 h.2 (text.disj (either_has o f h.3 h.4))
 
-relation_has : (k : Stack) (o : Option Term) (ts : Tokens) → TermAfter Formulas k o ts → IsSpelledBy Formulas (whole (relation_ended k o)) ts
-relation_has (frame.Right b s r ∷ k) (Some t) ts h =
+relation_top_has : (k : Stack) (t : Term) (ts : Tokens) → TermAfter Formulas k (Some t) ts → IsSpelledBy Formulas (whole (relation_top k t)) ts
+relation_top_has (frame.Right b s r ∷ k) t ts h =
     conj_ended k b.or (joined b.and (denied b.nots (related r s t))) ts (part_has Formulas k b (related r s t) ts _ [] (h.1.0, h.1.2, h.1.3) (text.relation r h.1.4 h.2))
-relation_has _ _ ts h = tt
+relation_top_has _ t ts h = tt
+
+relation_has : (k : Stack) (o : Option Term) (ts : Tokens) → TermAfter Formulas k o ts → IsSpelledBy Formulas (whole (relation_ended k o)) ts
+relation_has k None ts h = tt
+relation_has k (Some t) ts h = relation_top_has k t ts h
 
 formula_ended : (k : Stack) (s : State) (ts : Tokens) → Has Formulas k s ts [] → IsSpelledBy Formulas (whole (ended_formula k s)) ts
 unfolding hidden term_shape term_child array_shape array_child

@@ -1,6 +1,6 @@
 -- Reading formula text token by token, with a stack of what stands around.
 -- No promise rests on this file: it says what the code keeps on the way.
-use Rattle.std.specs.Prelude.{◌≡◌, ℕ, zero, suc, ℤ, pos, List, [], ◌∷◌, Option, Some, None, Bool, true, false, Result, Ok, Err}
+use Rattle.std.specs.Prelude.{if◌then◌else◌, ◌≡◌, ℕ, zero, suc, ℤ, pos, List, [], ◌∷◌, Option, Some, None, Bool, true, false, Result, Ok, Err}
 use Rattle.ac_logic.specs.declared.label.Label.{Label}
 use Rattle.ac_logic.specs.declared.label.LabelKind.{LabelKind}
 use Rattle.ac_logic.specs.declared.formula.Sym.{Sym}
@@ -11,6 +11,18 @@ use Rattle.ac_logic.specs.declared.formula.Formula.{Formula, True, False, Le, Eq
 use Rattle.ac_logic.specs.declared.mark.Mark.{Mark}
 use Rattle.ac_logic.specs.declared.mark.Mark.TheVariants as mark
 use Rattle.ac_logic.specs.declared.mark.Relation.{Relation}
+use Rattle.ac_logic.specs.declared.sort.ProductSign.{ProductSign}
+use Rattle.ac_logic.specs.declared.sort.ProductSign.TheVariants as product_mark
+use Rattle.ac_logic.specs.declared.sort.Connective.{Connective}
+use Rattle.ac_logic.specs.declared.sort.Connective.TheVariants as link
+use Rattle.ac_logic.specs.declared.sort.FactorStart.{FactorStart}
+use Rattle.ac_logic.specs.declared.sort.FactorStart.TheVariants as factor_mark
+use Rattle.ac_logic.specs.declared.sort.PartStart.{PartStart}
+use Rattle.ac_logic.specs.declared.sort.PartStart.TheVariants as part_mark
+use Rattle.ac_logic.specs.declared.sort.ArrayWord.{ArrayWord}
+use Rattle.ac_logic.specs.declared.sort.ArrayWord.TheVariants as array_mark
+use Rattle.ac_logic.specs.declared.sort.IndexEnd.{IndexEnd}
+use Rattle.ac_logic.specs.declared.sort.IndexEnd.TheVariants as index_mark
 use Rattle.ac_logic.specs.declared.reader.Adding.{Adding}
 use Rattle.ac_logic.specs.declared.reader.Adding.TheVariants as adding
 use Rattle.ac_logic.specs.declared.reader.Pending.{Pending}
@@ -34,6 +46,87 @@ Machine = Stack × State
 abbrev pub if_some : {A B : Type 0} → Option A → (A → Option B) → Option B
 if_some None f = None
 if_some (Some a) f = f a
+
+-- what a token is, by what may stand at a place
+abbrev pub name_in : Mark → Option (List ℕ)
+name_in (mark.Name x) = Some x
+name_in _ = None
+
+abbrev pub bound_in : Mark → Option (List ℕ)
+bound_in (mark.Bound x) = Some x
+bound_in _ = None
+
+abbrev pub literal_in : Mark → Option ℕ
+literal_in (mark.Literal n) = Some n
+literal_in _ = None
+
+abbrev pub relation_in : Mark → Option Relation
+relation_in (mark.Relation r) = Some r
+relation_in _ = None
+
+abbrev pub is_comma : Mark → Bool
+is_comma mark.Comma = true
+is_comma _ = false
+
+abbrev pub is_open_paren : Mark → Bool
+is_open_paren mark.OpenParen = true
+is_open_paren _ = false
+
+abbrev pub is_close_paren : Mark → Bool
+is_close_paren mark.CloseParen = true
+is_close_paren _ = false
+
+abbrev pub is_open_bracket : Mark → Bool
+is_open_bracket mark.OpenBracket = true
+is_open_bracket _ = false
+
+abbrev pub is_close_bracket : Mark → Bool
+is_close_bracket mark.CloseBracket = true
+is_close_bracket _ = false
+
+abbrev pub is_open_brace : Mark → Bool
+is_open_brace mark.OpenBrace = true
+is_open_brace _ = false
+
+abbrev pub product_sign : Mark → ProductSign
+product_sign mark.Plus = product_mark.Plus
+product_sign mark.Minus = product_mark.Minus
+product_sign mark.Star = product_mark.Star
+product_sign _ = product_mark.Other
+
+abbrev pub connective : Mark → Connective
+connective mark.And = link.And
+connective mark.Or = link.Or
+connective mark.Implies = link.Implies
+connective mark.CloseBrace = link.Close
+connective _ = link.Other
+
+abbrev pub factor_start : Mark → FactorStart
+factor_start (mark.Literal n) = factor_mark.Literal n
+factor_start (mark.Bound x) = factor_mark.Bound
+factor_start mark.Hash = factor_mark.Hash
+factor_start mark.Minus = factor_mark.Minus
+factor_start mark.OpenParen = factor_mark.Paren
+factor_start _ = factor_mark.Array
+
+abbrev pub part_start : Mark → PartStart
+part_start mark.True = part_mark.True
+part_start mark.False = part_mark.False
+part_start mark.Not = part_mark.Not
+part_start mark.OpenBrace = part_mark.Brace
+part_start mark.All = part_mark.All
+part_start mark.At = part_mark.Label
+part_start _ = part_mark.Term
+
+abbrev pub array_word : Mark → ArrayWord
+array_word mark.Init = array_mark.Init
+array_word mark.Put = array_mark.Put
+array_word _ = array_mark.Other
+
+abbrev pub index_end : Mark → IndexEnd
+index_end mark.CloseBracket = index_mark.Bracket
+index_end mark.Comma = index_mark.Comma
+index_end _ = index_mark.Other
 
 -- the names of the enclosing `all`
 abbrev pub names_of : Stack → Names
@@ -96,34 +189,36 @@ closed (frame.All b x ∷ k) f = Some (k, part_read b (Every f))
 closed (frame.Lab b l ∷ k) f = Some (k, part_read b (Labelled l f))
 closed _ f = None
 
+abbrev pub connected : Stack → Option Formula → Formula → Connective → Option Machine
+connected k o f link.And = Some (k, state.Part (before o (Some f) 0))
+connected k o f link.Or = Some (k, state.Part (before (Some (either o f)) None 0))
+connected k o f link.Implies = Some (frame.Antecedent (either o f) ∷ k, state.Part unbound)
+connected k o f link.Close = closed k (either o f)
+connected k o f link.Other = None
+
 -- a token behind a conjunction
 abbrev pub following : Stack → Option Formula → Formula → Mark → Option Machine
-following k o f mark.And = Some (k, state.Part (before o (Some f) 0))
-following k o f mark.Or = Some (k, state.Part (before (Some (either o f)) None 0))
-following k o f mark.Implies = Some (frame.Antecedent (either o f) ∷ k, state.Part unbound)
-following k o f mark.CloseBrace = closed k (either o f)
-following k o f _ = None
+following k o f m = connected k o f (connective m)
+
+abbrev pub index_ends : Stack → Pending → ArrayTerm → Term → IndexEnd → Option Machine
+index_ends k p a t index_mark.Bracket = Some (k, atom_read p (ReadOf a t (Num (pos 0))))
+index_ends k p a t index_mark.Comma = Some (frame.Second p a t ∷ k, state.Factor fresh)
+index_ends k p a t index_mark.Other = None
 
 abbrev pub in_index : Stack → Pending → ArrayTerm → Term → Mark → Option Machine
-in_index k p a t mark.CloseBracket = Some (k, atom_read p (ReadOf a t (Num (pos 0))))
-in_index k p a t mark.Comma = Some (frame.Second p a t ∷ k, state.Factor fresh)
-in_index k p a t _ = None
+in_index k p a t m = index_ends k p a t (index_end m)
 
 abbrev pub at_paren : Machine → Mark → Option Machine
-at_paren m mark.CloseParen = Some m
-at_paren m _ = None
+at_paren n m = if is_close_paren m then Some n else None
 
 abbrev pub at_bracket : Machine → Mark → Option Machine
-at_bracket m mark.CloseBracket = Some m
-at_bracket m _ = None
+at_bracket n m = if is_close_bracket m then Some n else None
 
 abbrev pub at_comma : Machine → Mark → Option Machine
-at_comma m mark.Comma = Some m
-at_comma m _ = None
+at_comma n m = if is_comma m then Some n else None
 
 abbrev pub at_relation : Stack → Before → Term → Mark → Option Machine
-at_relation k b t (mark.Relation r) = Some (frame.Right b t r ∷ k, state.Factor fresh)
-at_relation k b t _ = None
+at_relation k b t m = if_some (relation_in m) (λ r. Some (frame.Right b t r ∷ k, state.Factor fresh))
 
 -- a token behind a whole term
 abbrev pub term_ends : Stack → Term → Mark → Option Machine
@@ -137,48 +232,59 @@ term_ends (frame.Left b ∷ k) t m = at_relation k b t m
 term_ends (frame.Right b s r ∷ k) t m = following k b.or (joined b.and (denied b.nots (related r s t))) m
 term_ends _ t m = None
 
+abbrev pub product_ends : Stack → Adding → Term → Mark → ProductSign → Option Machine
+product_ends k a x m product_mark.Plus = Some (k, state.Factor (pending (adding.Plus (added a x)) None false))
+product_ends k a x m product_mark.Minus = Some (k, state.Factor (pending (adding.Minus (added a x)) None false))
+product_ends k a x m product_mark.Star = Some (k, state.Factor (pending a (Some x) false))
+product_ends k a x m product_mark.Other = term_ends k (added a x) m
+
 -- a token behind a product
 abbrev pub having : Stack → Adding → Term → Mark → Option Machine
-having k a x mark.Plus = Some (k, state.Factor (pending (adding.Plus (added a x)) None false))
-having k a x mark.Minus = Some (k, state.Factor (pending (adding.Minus (added a x)) None false))
-having k a x mark.Star = Some (k, state.Factor (pending a (Some x) false))
-having k a x m = term_ends k (added a x) m
+having k a x m = product_ends k a x m (product_sign m)
+
+abbrev pub word_begins : Stack → Slot → ArrayWord → Option Machine
+word_begins k s array_mark.Init = Some (k, state.InitWord s)
+word_begins k s array_mark.Put = Some (k, state.PutWord s)
+word_begins k s array_mark.Other = None
+
+abbrev pub named_begins : Stack → Slot → Mark → Option (List ℕ) → Option Machine
+named_begins k s m (Some x) = Some (k, state.Array s (Array (Value x)))
+named_begins k s m None = word_begins k s (array_word m)
 
 -- a token that begins an array
 abbrev pub array_begins : Stack → Slot → Mark → Option Machine
-array_begins k s (mark.Name x) = Some (k, state.Array s (Array (Value x)))
-array_begins k s mark.Init = Some (k, state.InitWord s)
-array_begins k s mark.Put = Some (k, state.PutWord s)
-array_begins k s _ = None
+array_begins k s m = named_begins k s m (name_in m)
 
 abbrev pub at_minus : Stack → Pending → Bool → Option Machine
 at_minus k p false = Some (k, state.Factor (pending p.sum p.product true))
 at_minus k p true = None
 
+abbrev pub bound_read : Stack → Pending → Mark → Option Machine
+bound_read k p m = if_some (bound_in m) (λ x. if_some (place_of x (names_of k)) (λ i. Some (k, atom_read p (Bound i))))
+
+abbrev pub factor_begins : Stack → Pending → Mark → FactorStart → Option Machine
+factor_begins k p m (factor_mark.Literal n) = if_some (number_of p.minus n) (λ z. Some (k, number_read p z))
+factor_begins k p m factor_mark.Bound = bound_read k p m
+factor_begins k p m factor_mark.Hash = Some (k, state.Fresh p)
+factor_begins k p m factor_mark.Minus = at_minus k p p.minus
+factor_begins k p m factor_mark.Paren = Some (frame.Paren p ∷ k, state.Factor fresh)
+factor_begins k p m factor_mark.Array = array_begins k (slot.Atom p) m
+
 -- a token where a factor is due
 abbrev pub wanting : Stack → Pending → Mark → Option Machine
-wanting k p (mark.Literal n) = if_some (number_of p.minus n) (λ z. Some (k, number_read p z))
-wanting k p (mark.Bound x) = if_some (place_of x (names_of k)) (λ i. Some (k, atom_read p (Bound i)))
-wanting k p mark.Hash = Some (k, state.Fresh p)
-wanting k p mark.Minus = at_minus k p p.minus
-wanting k p mark.OpenParen = Some (frame.Paren p ∷ k, state.Factor fresh)
-wanting k p m = array_begins k (slot.Atom p) m
+wanting k p m = factor_begins k p m (factor_start m)
 
 abbrev pub fresh_read : Stack → Pending → Mark → Option Machine
-fresh_read k p (mark.Literal n) = if_some (short_of n) (λ i. Some (k, atom_read p (Scalar (Fresh i))))
-fresh_read k p _ = None
+fresh_read k p m = if_some (literal_in m) (λ n. if_some (short_of n) (λ i. Some (k, atom_read p (Scalar (Fresh i)))))
 
 abbrev pub at_open_paren : Machine → Mark → Option Machine
-at_open_paren m mark.OpenParen = Some m
-at_open_paren m _ = None
+at_open_paren n m = if is_open_paren m then Some n else None
 
 abbrev pub at_open_brace : Machine → Mark → Option Machine
-at_open_brace m mark.OpenBrace = Some m
-at_open_brace m _ = None
+at_open_brace n m = if is_open_brace m then Some n else None
 
 abbrev pub init_named : Stack → Slot → Mark → Option Machine
-init_named k s (mark.Name x) = Some (k, state.InitName s x)
-init_named k s _ = None
+init_named k s m = if_some (name_in m) (λ x. Some (k, state.InitName s x))
 
 -- the array of a `put` is read
 abbrev pub put_begins : Stack → ArrayTerm → Option Machine
@@ -186,8 +292,7 @@ put_begins (frame.Put s ∷ k) a = Some (frame.PutFirst s a ∷ k, state.Factor 
 put_begins _ a = None
 
 abbrev pub put_named : Stack → ArrayTerm → Mark → Option Machine
-put_named k a mark.Comma = put_begins k a
-put_named k a _ = None
+put_named k a m = if is_comma m then put_begins k a else None
 
 -- a symbol and nothing else is an atom
 abbrev pub symbol_ends : Stack → Pending → ArrayTerm → Mark → Option Machine
@@ -196,30 +301,30 @@ symbol_ends k p (Array s) m = having k p.sum (multiplied p.product (signed p.min
 symbol_ends k p (PutOf a i j v) m = None
 
 abbrev pub array_named : Stack → Pending → ArrayTerm → Mark → Option Machine
-array_named k p a mark.OpenBracket = Some (frame.First p a ∷ k, state.Factor fresh)
-array_named k p a m = symbol_ends k p a m
+array_named k p a m = if is_open_bracket m then Some (frame.First p a ∷ k, state.Factor fresh) else symbol_ends k p a m
 
 abbrev pub array_read : Stack → Slot → ArrayTerm → Mark → Option Machine
 array_read k (slot.Atom p) a m = array_named k p a m
 array_read k slot.Put a m = put_named k a m
 
+abbrev pub part_starts : Stack → Before → Mark → PartStart → Option Machine
+part_starts k b m part_mark.True = Some (k, part_read b True)
+part_starts k b m part_mark.False = Some (k, part_read b False)
+part_starts k b m part_mark.Not = Some (k, state.Part (before b.or b.and (suc b.nots)))
+part_starts k b m part_mark.Brace = Some (frame.Braces b ∷ k, state.Part unbound)
+part_starts k b m part_mark.All = Some (k, state.AllWord b)
+part_starts k b m part_mark.Label = Some (k, state.AtSign b)
+part_starts k b m part_mark.Term = wanting (frame.Left b ∷ k) fresh m
+
 -- a token where a part is due
 abbrev pub part_begins : Stack → Before → Mark → Option Machine
-part_begins k b mark.True = Some (k, part_read b True)
-part_begins k b mark.False = Some (k, part_read b False)
-part_begins k b mark.Not = Some (k, state.Part (before b.or b.and (suc b.nots)))
-part_begins k b mark.OpenBrace = Some (frame.Braces b ∷ k, state.Part unbound)
-part_begins k b mark.All = Some (k, state.AllWord b)
-part_begins k b mark.At = Some (k, state.AtSign b)
-part_begins k b m = wanting (frame.Left b ∷ k) fresh m
+part_begins k b m = part_starts k b m (part_start m)
 
 abbrev pub all_named : Stack → Before → Mark → Option Machine
-all_named k b (mark.Bound x) = Some (k, state.AllName b x)
-all_named k b _ = None
+all_named k b m = if_some (bound_in m) (λ x. Some (k, state.AllName b x))
 
 abbrev pub node_named : Stack → Before → LabelKind → Mark → Option Machine
-node_named k b c (mark.Literal n) = if_some (short_of n) (λ i. Some (k, state.AtLabel b (record { kind = c; node = record { 0 = i } })))
-node_named k b c _ = None
+node_named k b c m = if_some (literal_in m) (λ n. if_some (short_of n) (λ i. Some (k, state.AtLabel b (record { kind = c; node = record { 0 = i } }))))
 
 abbrev pub stepped : Stack → State → Mark → Option Machine
 stepped k (state.Factor p) m = wanting k p m
@@ -240,10 +345,21 @@ stepped k (state.AtLabel b l) m = at_open_brace (frame.Lab b l ∷ k, state.Part
 stepped k (state.Conj o f) m = following k o f m
 
 -- the term, if it may end here
-abbrev pub term_so_far : State → Option Term
+abbrev pub atom_so_far : Pending → Term → Term
+atom_so_far p t = added p.sum (multiplied p.product (signed p.minus t))
+
+abbrev pub symbol_so_far : Pending → ArrayTerm → Option Term
 unfolding hidden term_shape term_child array_shape array_child
+symbol_so_far p (Array s) = Some (atom_so_far p (Scalar s))
+symbol_so_far p (PutOf a i j v) = None
+
+abbrev pub array_so_far : Slot → ArrayTerm → Option Term
+array_so_far (slot.Atom p) a = symbol_so_far p a
+array_so_far slot.Put a = None
+
+abbrev pub term_so_far : State → Option Term
 term_so_far (state.Product a x) = Some (added a x)
-term_so_far (state.Array (slot.Atom p) (Array s)) = Some (added p.sum (multiplied p.product (signed p.minus (Scalar s))))
+term_so_far (state.Array s a) = array_so_far s a
 term_so_far _ = None
 
 abbrev pub ended_term : Stack → State → Option Term
@@ -255,9 +371,13 @@ implied [] f = Some f
 implied (frame.Antecedent g ∷ k) f = implied k (Implication g f)
 implied (_ ∷ k) f = None
 
+abbrev pub relation_top : Stack → Term → Option Formula
+relation_top (frame.Right b s r ∷ k) t = implied k (either b.or (joined b.and (denied b.nots (related r s t))))
+relation_top _ t = None
+
 abbrev pub relation_ended : Stack → Option Term → Option Formula
-relation_ended (frame.Right b s r ∷ k) (Some t) = implied k (either b.or (joined b.and (denied b.nots (related r s t))))
-relation_ended _ _ = None
+relation_ended k None = None
+relation_ended k (Some t) = relation_top k t
 
 abbrev pub ended_formula : Stack → State → Option Formula
 ended_formula k (state.Conj o f) = implied k (either o f)

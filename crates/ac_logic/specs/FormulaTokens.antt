@@ -12,6 +12,8 @@ use Rattle.ac_logic.specs.declared.mark.Mark.TheVariants as mark
 use Rattle.ac_logic.specs.declared.mark.Relation.TheVariants as rel
 use Rattle.ac_logic.specs.declared.run.Run.{Run}
 use Rattle.ac_logic.specs.declared.run.Run.TheVariants as run
+use Rattle.ac_logic.specs.declared.read.FormulaFault.{FormulaFault}
+use Rattle.ac_logic.specs.declared.read.FormulaFault.TheVariants.{At as FaultAt, OutOfMemory}
 use Rattle.ac_logic.specs.FormulaText.{Tokens, Goal, Tree, IsTextOf, Continues}
 
 -- what a run goes on with
@@ -146,3 +148,8 @@ pub record IsRefusedAt (g : Goal) (bytes : List ℕ) (place : ℕ) : Type 0 wher
   pub at : place + length left ≡ length bytes
   pub so_far : Continues g before
   pub no_further : NoneFollows g before left
+
+-- a refusal: the text is of no formula, or term, and the place is exact. Memory may want with any text
+abbrev pub IsFault : Goal → List ℕ → FormulaFault → Type 0
+IsFault g bytes (FaultAt at) = ((t : Tree g) → IsText g t bytes → ⊥) × IsRefusedAt g bytes at
+IsFault g bytes OutOfMemory = Unit {0}
