@@ -1,5 +1,5 @@
 -- The three cases of a product.
-use Rattle.std.proofs.Common.{◌≡◌, pos, List, [], ◌∷◌, Option, option_map, refl, ◌∙◌, ap}
+use Rattle.std.proofs.Common.{◌≡◌, pos, List, [], ◌∷◌, option_map, refl, ◌∙◌, ap}
 use Rattle.ac_linear.specs.declared.entry.Entry.{Entry}
 use Rattle.ac_linear.specs.declared.entry.Form.{Form}
 use Rattle.ac_linear.specs.declared.range.Range.TheVariants.{Coefficient}

@@ -1,5 +1,5 @@
 -- A part put on its place by index is put into its place.
-use Rattle.std.proofs.Common.{◌≡◌, ℕ, zero, suc, ◌+◌, ℤ, pos, ◌+ℤ◌, List, [], ◌∷◌, Bool, true, false, Option, Some, None, option_map, refl, sym, ◌∙◌, ap, if◌then◌else◌, arith, insert, remove, slice_set, slice_index_or}
+use Rattle.std.proofs.Common.{◌≡◌, ℕ, suc, ◌+◌, ℤ, pos, ◌+ℤ◌, List, [], ◌∷◌, true, false, Option, Some, None, option_map, refl, sym, ◌∙◌, ap, if◌then◌else◌, arith, remove, slice_set, slice_index_or}
 use Rattle.std.specs.Ordering.{int_eq}
 use Rattle.ac_linear.specs.declared.entry.Entry.{Entry}
 use Rattle.ac_linear.specs.declared.place.Place.{Place}
@@ -7,7 +7,7 @@ use Rattle.ac_linear.specs.declared.place.Place.TheVariants.{Before, At}
 use Rattle.ac_linear.specs.declared.place.Side.TheVariants as on_side
 use Rattle.ac_linear.specs.declared.range.Range.{Range}
 use Rattle.ac_linear.specs.NormalForm.{within, side, by_side, with_factor, put_in}
-use Rattle.ac_linear.specs.Places.{place_from, replaced, joined_at, put_on}
+use Rattle.ac_linear.specs.Places.{place_from, replaced, put_on}
 
 abbrev next : Place → Place
 next (Before i) = Before (suc i)

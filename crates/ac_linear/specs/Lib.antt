@@ -4,3 +4,4 @@ pub mod NormalForm
 pub mod Combination
 pub mod Places
 pub mod LinearValue
+pub mod WellOrdered

@@ -1,12 +1,27 @@
 -- Where a part goes among others, by index, and what the list is then.
 -- No promise rests on this file: it says what the code keeps on the way.
-use Rattle.std.specs.Prelude.{ℕ, suc, ◌<◌, ◌≤◌, ℤ, pos, ◌+ℤ◌, List, [], ◌∷◌, if◌then◌else◌, Option, Some, option_map, insert, remove, slice_set, slice_index_or}
-use Rattle.std.specs.Ordering.{int_eq}
+use Rattle.std.specs.Prelude.{ℕ, suc, ◌<◌, ◌≤◌, ◌≢◌, ⊤, ℤ, pos, ◌+ℤ◌, List, [], ◌∷◌, Bool, if◌then◌else◌, Option, Some, option_map, insert, remove, slice_set, slice_index_or}
+use Rattle.std.specs.Ordering.{int_eq, is_lt, nat_cmp}
+use Rattle.std.specs.Cmp.Lexicographic.{slice_cmp}
+use Rattle.std.specs.declared.cmp.Ordering.TheVariants.{Greater}
 use Rattle.ac_linear.specs.declared.entry.Entry.{Entry}
 use Rattle.ac_linear.specs.declared.place.Place.{Place}
 use Rattle.ac_linear.specs.declared.place.Place.TheVariants.{Before, At}
 use Rattle.ac_linear.specs.declared.range.Range.{Range}
 use Rattle.ac_linear.specs.NormalForm.{within, side, by_side}
+
+-- a print that is no greater than any of theirs
+abbrev pub IsBelow : List ℕ → List Entry → Type 0
+IsBelow t [] = ⊤
+IsBelow t (q ∷ qs) = (slice_cmp nat_cmp t q.print ≢ Greater) × IsBelow t qs
+
+-- no entry has a greater print than one behind it
+abbrev pub InOrder : List Entry → Type 0
+InOrder [] = ⊤
+InOrder (p ∷ ps) = IsBelow p.print ps × InOrder ps
+
+abbrev pub has_less : List ℕ → Entry → Bool
+has_less t q = is_lt (slice_cmp nat_cmp q.print t)
 
 abbrev pub place_from : ℕ → Entry → List Entry → Place
 place_from n p [] = Before n

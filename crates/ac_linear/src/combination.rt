@@ -3,6 +3,8 @@ ghost use Rattle.std.specs.Prelude.{◌≡◌, IfOk, map, Some, None, Err};
 ghost use Rattle.ac_linear.specs.declared.fault.LinFault.TheVariants as LinFault;
 ghost use Rattle.ac_linear.specs.NormalForm.{linear_of, part_of};
 ghost use Rattle.ac_linear.specs.Combination.{combination_of, combined_with, entry_of_part, form_of_linear};
+ghost use Rattle.ac_linear.specs.Places.{InOrder};
+ghost use Rattle.ac_linear.specs.WellOrdered.{IsOrdered};
 
 use crate::entry::{Entries, Entry, Form, Print};
 use crate::fault::LinFault;
@@ -13,9 +15,12 @@ use sqlite_items::Items;
 use std::alloc::{AllocError, Global};
 
 /// The sum of factor times fact, one fact after the other. It ends where either list does. It is too wide exactly where
-/// a product or sum on the way leaves 128 bits.
+/// a product or sum on the way leaves 128 bits. No factor is 0, each unit stands once, and the parts stand in the order
+/// of their printed units, however those of the facts stand.
+#[tactic(auto, using(crate::proofs::Ordered::combination_ordered))]
 pub fn combine(alloc: Global, facts: &[Linear], factors: &[u64]) -> Result<Linear, LinFault>
     ensures ok { IfOk result (λ sum. combination_of facts.now factors.now ≡ Some sum) }
+    ensures ordered { IfOk result (λ sum. IsOrdered sum.parts) }
     ensures wide { result ≡ Err LinFault.Wide → combination_of facts.now factors.now ≡ None }
 {
     match combination(alloc, facts, factors) {
@@ -45,12 +50,14 @@ fn combination(
 }
 
 /// The form and factor times fact.
+#[tactic(auto, using(crate::proofs::Search::plus_in_order))]
 fn combined(
     alloc: Global,
     form: Form,
     facts: &[Linear],
     factors: &[u64],
 ) -> Result<Option<Form>, AllocError>
+    requires { InOrder form.entries }
     ensures { IfOk result (λ sum. sum ≡ combined_with form facts.now factors.now) }
 {
     let mut sum = form;

@@ -65,7 +65,7 @@ impl<T> Model for Entries<T> {
     ghost view = { λ e. e.items.items };
 }
 
-/// A form on the way, its entries in the order of their prints.
+/// A form on the way. Its entries stand in the order of their prints, but for one made of a caller's parts.
 #[derive(Debug, Drop)]
 pub struct Form {
     pub constant: i128,

@@ -12,6 +12,7 @@ use ac_shared::Shared;
 use std::alloc::{AllocError, Global};
 
 /// The form of a term, with prints, or none where a number leaves the range.
+#[tactic(auto, using(crate::proofs::Search::form_in_order), unfolding(crate::specs::Opened::term_shape, crate::specs::Opened::term_child, crate::specs::Opened::array_shape, crate::specs::Opened::array_child, crate::specs::Opened::hidden))]
 pub fn form_of(alloc: Global, term: &Term) -> Result<Option<Form>, AllocError>
     ensures { IfOk result (λ form. form ≡ form_of term.now) }
 {

@@ -1,7 +1,7 @@
 //! Sums and multiples of forms.
 ghost use Rattle.std.specs.Prelude.{◌≡◌, ◌<◌, ◌≤◌, insert, length, IfOk, pos};
 ghost use Rattle.ac_linear.specs.NormalForm.{plus, put_all, put_in, put_multiple};
-ghost use Rattle.ac_linear.specs.Places.{joined_at};
+ghost use Rattle.ac_linear.specs.Places.{InOrder, joined_at};
 
 use crate::entry::{Entries, Entry, Form};
 use crate::place::{Place, place_of};
@@ -10,6 +10,7 @@ use std::alloc::AllocError;
 
 /// The form x and k times the form y, or none where a number leaves the range.
 pub fn plus(range: Range, x: Form, k: i128, y: Form) -> Result<Option<Form>, AllocError>
+    requires { InOrder x.entries }
     ensures { IfOk result (λ sum. sum ≡ plus range x k y) }
 {
     let Form { constant, entries } = x;
@@ -30,12 +31,14 @@ pub fn plus(range: Range, x: Form, k: i128, y: Form) -> Result<Option<Form>, All
 }
 
 /// The parts and k times some more.
+#[tactic(auto, using(crate::proofs::Search::multiple_in_order))]
 fn put_all(
     range: Range,
     entries: Entries<Entry>,
     k: i128,
     more: Entries<Entry>,
 ) -> Result<Option<Entries<Entry>>, AllocError>
+    requires { InOrder entries }
     ensures { IfOk result (λ all. all ≡ put_all range entries k more) }
 {
     let mut all = entries;
@@ -56,6 +59,7 @@ fn put_multiple(
     entry: Entry,
     entries: Entries<Entry>,
 ) -> Result<Option<Entries<Entry>>, AllocError>
+    requires { InOrder entries }
     ensures { IfOk result (λ all. all ≡ put_multiple range k entry entries) }
 {
     let Some(factor) = range.product(k, entry.factor) else {
@@ -80,6 +84,7 @@ fn put_in(
     entry: Entry,
     entries: Entries<Entry>,
 ) -> Result<Option<Entries<Entry>>, AllocError>
+    requires { InOrder entries }
     ensures { IfOk result (λ all. all ≡ put_in range entry entries) }
 {
     match place_of(&entry, entries.items.as_slice()) {

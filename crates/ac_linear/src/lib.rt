@@ -19,6 +19,6 @@ mod written;
 
 pub use combination::combine;
 pub use fault::LinFault;
-pub use laws::{combination_law, normal_law};
+pub use laws::{combination_law, combination_order_law, normal_law, normal_order_law};
 pub use linear::{Linear, Part};
 pub use normal_form::normal;

@@ -1,7 +1,7 @@
 //! Where a part goes among others.
-ghost use Rattle.std.specs.Prelude.{◌≡◌, ◌<◌, ◌≤◌, length};
+ghost use Rattle.std.specs.Prelude.{◌≡◌, ◌<◌, ◌≤◌, drop, length};
 ghost use Rattle.ac_linear.specs.NormalForm.{side};
-ghost use Rattle.ac_linear.specs.Places.{IsPlaceAmong, place_from};
+ghost use Rattle.ac_linear.specs.Places.{has_less, InOrder, IsPlaceAmong, place_from};
 
 use crate::entry::Entry;
 use ac_logic::same_term;
@@ -22,19 +22,35 @@ pub enum Side {
     Behind,
 }
 
-/// The first place at which the parts have a greater print or the same unit.
+/// The first place at which the parts have a greater print or the same unit. Since they stand in order, halving finds
+/// where those with a lesser print end, and what is looked at from there on has the same print, but for the last.
 pub fn place_of(entry: &Entry, entries: &[Entry]) -> Place
+    requires { InOrder entries.now }
     ensures place { result ≡ place_from 0 entry.now entries.now }
     ensures within { IsPlaceAmong result (length entries.now) }
 {
-    for (i, other) in entries.iter().enumerate() {
-        match side_of(entry, other) {
+    let start = lesser(entry, entries);
+    for i in start..entries.len() {
+        match side_of(entry, &entries[i]) {
             Side::Before => return Place::Before(i),
             Side::Same => return Place::At(i),
             Side::Behind => {}
         }
     }
     Place::Before(entries.len())
+}
+
+/// How many parts have a lesser print. They stand in front.
+fn lesser(entry: &Entry, entries: &[Entry]) -> usize
+    requires { InOrder entries.now }
+    ensures within { result ≤ length entries.now }
+    ensures behind { place_from 0 entry.now entries.now ≡ place_from result entry.now (drop result entries.now) }
+{
+    entries.partition_point(
+        |other: &Entry| -> bool
+            ensures { result ≡ has_less entry.entry.now.print other.now }
+        { other.print.text() < entry.print.text() },
+    )
 }
 
 #[tactic(auto, using(crate::proofs::Equal::term_true, crate::proofs::Equal::term_false))]
