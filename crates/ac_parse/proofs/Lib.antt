@@ -1,4 +1,5 @@
 pub mod Paths
+pub mod Stacks
 pub mod ExpressionComplete
 pub mod ExpressionSound
 pub mod ExpressionEnds
@@ -18,3 +19,13 @@ pub mod ProgramSound
 pub mod ProgramEnds
 pub mod Refused
 pub mod OneProgram
+pub mod Parsed
+pub mod NumberRules
+pub mod NumberLists
+pub mod PrintRules
+pub mod PrintCuts
+pub mod PrintExpressions
+pub mod PrintConditions
+pub mod PrintStatements
+pub mod PrintNumbers
+pub mod PrintPrograms

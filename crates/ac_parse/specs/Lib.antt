@@ -1,3 +1,4 @@
+pub mod Opened
 pub mod Steps
 pub mod ReadExpression
 pub mod ReadCondition
@@ -8,3 +9,8 @@ pub mod ReadProgram
 pub mod Limits
 pub mod ReadTokens
 pub mod Refusals
+pub mod Numbers
+pub mod Parsing
+pub mod Printing
+pub mod Printable
+pub mod Spans

@@ -8,6 +8,7 @@ use Rattle.ac_tree.specs.declared.program.ExprKind.TheVariants as expr
 use Rattle.ac_tree.specs.declared.program.Index.TheVariants as index
 use Rattle.ac_tree.specs.declared.token.Mark.{Mark}
 use Rattle.ac_tree.specs.declared.token.Mark.TheVariants as mark
+use Rattle.ac_tree.specs.declared.token.Sign.{Sign}
 use Rattle.ac_tree.specs.declared.token.Sign.TheVariants as sign
 use Rattle.ac_tree.specs.declared.token.Token.{Token}
 use Rattle.ac_tree.specs.Grammar.{Tokens, Word, expression, join}
@@ -89,6 +90,11 @@ next_index k _ p c x = None
 abbrev pub closing : (Stack → Bracket → Pending → Span → Operand → Option Reading) → Stack → Span → Operand → Option Reading
 closing close [] c x = None
 closing close (o ∷ k) c x = close k o.bracket o.before c x
+
+abbrev pub closer : Sign → Stack → Bracket → Pending → Span → Operand → Option Reading
+closer sign.CloseParen = close_paren
+closer sign.CloseBracket = close_index
+closer _ = next_index
 
 abbrev pub signing : Stack → Pending → Option Span → Span → Option Reading
 signing k p None s = Some (reading k (Want (pending p.sum p.product (Some s))))

@@ -8,11 +8,22 @@
 mod condition;
 mod declaration;
 mod expression;
+mod headers;
 mod laws;
+mod numbering;
+mod parsing;
+mod print_condition;
+mod print_expression;
+mod print_laws;
+mod print_program;
+mod print_statement;
 mod refusal;
 mod stack;
 mod statement;
 mod tokens;
 
-pub use laws::bytes_spell_at_most_one_program;
+pub use laws::{a_program_within_the_limits_is_parsed, bytes_spell_at_most_one_program};
+pub use parsing::{ParseFault, parse};
+pub use print_laws::a_printed_program_reads_back;
+pub use print_program::print;
 pub use tokens::{TokenFault, tokenize, utf8_text};

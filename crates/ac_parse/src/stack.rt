@@ -41,7 +41,7 @@ impl<T> Stack<T> {
     pub fn is_empty(&self) -> bool
         ensures { IsTrue result ↔ (self.now ≡ []) }
     {
-        self.items.is_empty()
+        self.items.as_slice().is_empty()
     }
 }
 
