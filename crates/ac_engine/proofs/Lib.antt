@@ -1,6 +1,7 @@
-pub mod Naming
-pub mod Readings
+pub mod Extents
+pub mod Lists
+pub mod OneVerdict
 pub mod Reports
-pub mod Rules
+pub mod Statements
 pub mod Verdicts
 pub mod WordsLemmas

@@ -6,7 +6,7 @@ use Rattle.std.proofs.lemmas.List.Concat.{flat_map-append}
 use Rattle.ac_tree.specs.declared.node.Node.{Node}
 use Rattle.ac_engine.specs.declared.outcome.Outcome.TheVariants.{Accepted, Rejected}
 use Rattle.ac_engine.specs.Report.{line, unproved_line, report, lines_of}
-use Rattle.ac_engine.proofs.Readings.{map-both}
+use Rattle.ac_engine.proofs.Lists.{map-both}
 use Rattle.std.proofs.lemmas.List.{take_more, take_all}
 
 -- the two lines before those of the nodes

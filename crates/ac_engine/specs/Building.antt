@@ -1,27 +1,38 @@
--- From bytes to a program that is built.
--- No promise rests on this file: it says what the code keeps on the way.
-use Rattle.std.specs.Prelude.{◌≡◌, ℕ, ◌≤◌, List, length}
+-- From bytes to a program that is built, or to the reason why there is none.
+use Rattle.std.specs.Prelude.{◌≡◌, ℕ, List, Some}
 use Rattle.ac_tree.specs.declared.node.Node.{Node}
 use Rattle.ac_tree.specs.declared.program.Program.{Program}
-use Rattle.ac_tree.specs.Grammar.{Tokens}
-use Rattle.ac_tree.specs.Tokens.{IsCutInto}
-use Rattle.ac_engine.specs.Form.{AreSmall, IsDeclared}
-use Rattle.ac_engine.specs.Reading.{IsRead, straight_of}
+use Rattle.ac_tree.specs.StaticRules.{first_fault, faults, Accepted as WellFormed}
+use Rattle.ac_parse.specs.declared.parsing.ParseFault.TheVariants as parse_fault
+use Rattle.ac_parse.specs.Parsing.{SpellsWithin, IsParseFault, PassesLimit}
+use Rattle.ac_engine.specs.declared.outcome.Outcome.{Outcome}
+use Rattle.ac_engine.specs.declared.outcome.Outcome.TheVariants as outcome
+use Rattle.ac_engine.specs.declared.program_fault.ProgramFault.{ProgramFault}
+use Rattle.ac_engine.specs.declared.program_fault.ProgramFault.TheVariants.{NotUtf8, Token, Unexpected, Rule, NotBuilt}
+use Rattle.ac_engine.specs.Built.{IsBuilt, IsFirstUnbuilt}
 use Rattle.ac_engine.specs.Sites.{unproved}
 
--- the bytes are few and are cut into these small tokens
-pub record IsCut (bytes : List ℕ) (tokens : Tokens) : Type 0 where
-  pub short : length bytes ≤ 1048576
-  pub cut : IsCutInto bytes tokens
-  pub small : AreSmall tokens
+-- the bytes spell the program within the limits, and it breaks no static rule
+pub record IsProgram (bytes : List ℕ) (p : Program) : Type 0 where
+  pub within : SpellsWithin bytes p
+  pub well_formed : WellFormed p
 
-abbrev pub IsCutByNone : List ℕ → Type 0
-IsCutByNone bytes = (tokens : Tokens) → IsCut bytes tokens → ⊥
-
--- the bytes are those of this program, which is built, and these are its unproved conditions
+-- moreover it is built, and these are its unproved conditions
 pub record Builds (bytes : List ℕ) (p : Program) (nodes : List Node) : Type 0 where
-  pub tokens : Tokens
-  pub cut : IsCut bytes tokens
-  pub read : IsRead tokens p
-  pub declared_ : IsDeclared (straight_of p)
+  pub is : IsProgram bytes p
+  pub built : IsBuilt p
   pub sites : nodes ≡ unproved p
+
+-- why the bytes are those of no program that is built
+abbrev pub IsProgramFault : List ℕ → ProgramFault → Type 0
+IsProgramFault bytes (NotUtf8 at) = IsParseFault bytes (parse_fault.NotUtf8 at)
+IsProgramFault bytes (Token at) = IsParseFault bytes (parse_fault.Token at)
+IsProgramFault bytes (Unexpected span) = IsParseFault bytes (parse_fault.Unexpected span)
+IsProgramFault bytes (Rule fault) = (p : Program) × SpellsWithin bytes p × (first_fault (faults p) ≡ Some fault)
+IsProgramFault bytes (NotBuilt node) = (p : Program) × IsProgram bytes p × IsFirstUnbuilt p node
+
+-- such a reason, or the first limit that the bytes pass
+abbrev pub IsRefusal : List ℕ → Outcome → Type 0
+IsRefusal bytes (outcome.Program fault) = IsProgramFault bytes fault
+IsRefusal bytes (outcome.Limit which value) = PassesLimit bytes which value
+IsRefusal bytes _ = ⊥

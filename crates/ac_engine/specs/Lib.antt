@@ -1,12 +1,11 @@
 pub mod Building
+pub mod Built
 pub mod Causes
-pub mod Form
 pub mod Headline
-pub mod Names
 pub mod Opened
 pub mod Policy
-pub mod Reading
 pub mod Report
 pub mod Sites
 pub mod Status
 pub mod Words
+pub mod Writes

@@ -1,17 +1,15 @@
-//! Whether the bytes of a file are those of a program that is built.
+//! From the bytes of a file to a program that is built.
 
-ghost use Rattle.std.specs.Prelude.{◌≡◌, IfOk, OnOk, MatchOption};
-ghost use Rattle.ac_engine.specs.Form.{IsNotBuilt};
-ghost use Rattle.ac_engine.specs.Building.{IsCut, IsCutByNone, Builds};
+ghost use Rattle.std.specs.Prelude.{◌≡◌, List, ℕ, IfOk, IfErr};
+ghost use Rattle.ac_parse.specs.Parsing.{SpellsWithin, IsParseFault};
+ghost use Rattle.ac_engine.specs.Building.{Builds, IsRefusal};
 
-use crate::names::unproved;
-use crate::straight::straight;
-use ac_parse::{TokenFault, tokenize};
-use ac_tree::{Node, Program, Token};
+use crate::outcome::Outcome;
+use crate::program_fault::ProgramFault;
+use crate::sites::unproved;
+use ac_parse::{ParseFault, parse};
+use ac_tree::{Node, Program, check_static};
 use std::alloc::{AllocError, Global};
-
-/// The bytes that a program has at most.
-pub(crate) const PROGRAM_BYTES: usize = 1_048_576;
 
 /// A program that is built, and the writes whose condition is unproved.
 #[derive(Drop)]
@@ -20,48 +18,51 @@ pub(crate) struct Built {
     pub unproved: Vec<Node>,
 }
 
-/// The program of these bytes, if it is built.
-pub(crate) fn build(alloc: Global, bytes: &[u8]) -> Result<Option<Built>, AllocError>
-    ensures { IfOk result (λ o. MatchOption o (IsNotBuilt bytes.now) (λ b. Builds bytes.now b.program b.unproved.items)) }
+/// The program of these bytes, if it is built, or the first reason why it is not: of its text, of the static rules, of the
+/// forms that are built.
+pub(crate) fn build(alloc: Global, bytes: &[u8]) -> Result<Result<Built, Outcome>, AllocError>
+    ensures built { IfOk result (λ r. IfOk r (λ b. Builds bytes.now b.program b.unproved.items)) }
+    ensures refused { IfOk result (λ r. IfErr r (λ o. IsRefusal bytes.now o)) }
 {
-    let Some(tokens) = tokens(alloc, bytes)? else {
-        return Ok(None);
-    };
-    let Some(program) = straight(alloc, tokens.as_slice())? else {
-        return Ok(None);
-    };
-    let Some(unproved) = unproved(alloc, &program)? else {
-        return Ok(None);
-    };
-    Ok(Some(Built { program, unproved }))
-}
-
-/// The tokens of the bytes, where they are no more than a program may have, are UTF-8 and are cut into tokens of which no
-/// literal and no name is too large.
-fn tokens(alloc: Global, bytes: &[u8]) -> Result<Option<Vec<Token>>, AllocError>
-    ensures { IfOk result (λ o. MatchOption o (IsCutByNone bytes.now) (λ tokens. IsCut bytes.now tokens.items)) }
-{
-    if bytes.len() > PROGRAM_BYTES {
-        return Ok(None);
-    }
-    let Ok(text) = str::from_utf8(bytes) else {
-        return Ok(None);
-    };
-    match tokenize(alloc, text) {
-        Ok(tokens) => Ok(Some(tokens)),
-        Err(fault) => {
-            want_of_memory(fault)?;
-            Ok(None)
-        }
+    match parse(alloc, bytes) {
+        Ok(program) => judge(alloc, program),
+        Err(fault) => Ok(Err(refusal(fault)?)),
     }
 }
 
-/// Tells the want of memory from the faults of a text.
-fn want_of_memory(fault: TokenFault) -> Result<(), AllocError>
-    ensures { OnOk result (fault ≡ TokenFault.OutOfMemory → ⊥) }
+/// What a fault of the text is reported as. Want of memory is none.
+fn refusal(fault: ParseFault) -> Result<Outcome, AllocError>
+    ensures { (bytes : List ℕ) → IsParseFault bytes fault → IfOk result (λ o. IsRefusal bytes o) }
 {
     match fault {
-        TokenFault::OutOfMemory => Err(AllocError),
-        _ => Ok(()),
+        ParseFault::NotUtf8 { at } => Ok(Outcome::Program {
+            fault: ProgramFault::NotUtf8 { at },
+        }),
+        ParseFault::Token { at } => Ok(Outcome::Program {
+            fault: ProgramFault::Token { at },
+        }),
+        ParseFault::Unexpected { span } => Ok(Outcome::Program {
+            fault: ProgramFault::Unexpected { span },
+        }),
+        ParseFault::Limit { which, value } => Ok(Outcome::Limit { which, value }),
+        ParseFault::OutOfMemory => Err(AllocError),
+    }
+}
+
+/// Whether a program that was read keeps the static rules and is built.
+fn judge(alloc: Global, program: Program) -> Result<Result<Built, Outcome>, AllocError>
+    ensures built { (bytes : List ℕ) → SpellsWithin bytes program → IfOk result (λ r. IfOk r (λ b. Builds bytes b.program b.unproved.items)) }
+    ensures refused { (bytes : List ℕ) → SpellsWithin bytes program → IfOk result (λ r. IfErr r (λ o. IsRefusal bytes o)) }
+{
+    if let Err(fault) = check_static(&program) {
+        let fault = ProgramFault::Rule { fault };
+        return Ok(Err(Outcome::Program { fault }));
+    }
+    match unproved(alloc, &program)? {
+        Ok(unproved) => Ok(Ok(Built { program, unproved })),
+        Err(node) => {
+            let fault = ProgramFault::NotBuilt { node };
+            Ok(Err(Outcome::Program { fault }))
+        }
     }
 }

@@ -3,17 +3,19 @@
 
 mod building;
 mod certify;
-mod heads;
-mod names;
+mod laws;
 mod outcome;
 mod policy;
+mod program_fault;
 mod report;
+mod sites;
 mod status;
-mod straight;
 #[cfg(test)]
 mod tests;
 mod words;
 
 pub use certify::autocert;
+pub use laws::a_built_program_has_one_verdict;
 pub use outcome::Outcome;
+pub use program_fault::ProgramFault;
 pub use status::Status;

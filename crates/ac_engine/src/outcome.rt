@@ -1,8 +1,9 @@
 ghost use Rattle.std.specs.Prelude.{◌≡◌};
 ghost use Rattle.ac_engine.specs.Report.{status_of};
 
+use crate::program_fault::ProgramFault;
 use crate::status::Status;
-use ac_tree::Node;
+use ac_tree::{LimitKind, Node};
 use sqlite_items::Items;
 
 /// What a call reports.
@@ -19,8 +20,15 @@ pub enum Outcome {
     },
     /// The words have no stated form.
     Usage,
-    /// The program is not built.
-    Program,
+    /// The bytes are those of no program that is built.
+    Program {
+        fault: ProgramFault,
+    },
+    /// A limit on programs is passed; `value` is the greatest number that is allowed.
+    Limit {
+        which: LimitKind,
+        value: u64,
+    },
     /// The policy is not built.
     Policy,
     /// A file can't be read.
@@ -36,7 +44,8 @@ impl Outcome {
             Outcome::Accepted { .. } => Status::Accepted,
             Outcome::Rejected { .. } => Status::Rejected,
             Outcome::Usage => Status::Usage,
-            Outcome::Program => Status::Program,
+            Outcome::Program { .. } => Status::Program,
+            Outcome::Limit { .. } => Status::Limit,
             Outcome::Policy => Status::Policy,
             Outcome::ReadFault => Status::ReadFault,
         }

@@ -1,11 +1,13 @@
 //! The texts of the reports.
 
 ghost use Rattle.std.specs.Prelude.{◌≡◌, ◌++◌, IfOk, OnOk, string_bytes, List};
-ghost use Rattle.ac_engine.specs.declared.outcome.Outcome.TheVariants.{Accepted, Rejected};
-ghost use Rattle.ac_engine.specs.Report.{report, line, unproved_line};
+ghost use Rattle.ac_engine.specs.declared.outcome.Outcome.TheVariants.{Accepted, Rejected, Program as ProgramOutcome, Limit as LimitOutcome};
+ghost use Rattle.ac_engine.specs.declared.program_fault.ProgramFault.TheVariants.{NotUtf8, Token, Unexpected, Rule, NotBuilt};
+ghost use Rattle.ac_engine.specs.Report.{report, line, unproved_line, limit_word as word_of_limit};
 
 use crate::outcome::Outcome;
-use ac_tree::Node;
+use crate::program_fault::ProgramFault;
+use ac_tree::{LimitKind, Node, NodeId, Span, StaticFault};
 use std::alloc::{AllocError, Global};
 use std::fmt::Write;
 
@@ -25,9 +27,97 @@ pub(crate) fn report(alloc: Global, outcome: &Outcome) -> Result<String, AllocEr
             unproved,
         } => rejected(alloc, *conditions, unproved.as_slice()),
         Outcome::Usage => String::from_str(alloc, USAGE),
-        Outcome::Program => String::from_str(alloc, "program: not built\n"),
+        Outcome::Program { fault } => program_refused(alloc, fault),
+        Outcome::Limit { which, value } => limit_passed(alloc, *which, *value),
         Outcome::Policy => String::from_str(alloc, "policy: not built\n"),
         Outcome::ReadFault => String::from_str(alloc, "read fault\n"),
+    }
+}
+
+/// The report of bytes that are those of no program that is built.
+#[tactic(auto, unfolding(crate::specs::Report::report, crate::specs::Report::lines_of))]
+fn program_refused(alloc: Global, fault: &ProgramFault) -> Result<String, AllocError>
+    ensures { IfOk result (λ text. string_bytes text ≡ report (ProgramOutcome fault.now)) }
+{
+    match fault {
+        ProgramFault::NotUtf8 { at } => not_utf8(alloc, *at),
+        ProgramFault::Token { at } => no_token(alloc, *at),
+        ProgramFault::Unexpected { span } => unexpected(alloc, *span),
+        ProgramFault::Rule { fault } => rule_broken(alloc, *fault),
+        ProgramFault::NotBuilt { node } => not_built(alloc, *node),
+    }
+}
+
+#[tactic(auto, unfolding(crate::specs::Report::report, crate::specs::Report::lines_of))]
+fn not_utf8(alloc: Global, at: u32) -> Result<String, AllocError>
+    ensures { IfOk result (λ text. string_bytes text ≡ report (ProgramOutcome (NotUtf8 at))) }
+{
+    format!(in alloc; "program: not UTF-8 at {at}\n")
+}
+
+#[tactic(auto, unfolding(crate::specs::Report::report, crate::specs::Report::lines_of))]
+fn no_token(alloc: Global, at: u32) -> Result<String, AllocError>
+    ensures { IfOk result (λ text. string_bytes text ≡ report (ProgramOutcome (Token at))) }
+{
+    format!(in alloc; "program: token at {at}\n")
+}
+
+#[tactic(auto, unfolding(crate::specs::Report::report, crate::specs::Report::lines_of))]
+fn unexpected(alloc: Global, span: Span) -> Result<String, AllocError>
+    ensures { IfOk result (λ text. string_bytes text ≡ report (ProgramOutcome (Unexpected span))) }
+{
+    let start = span.start;
+    let end = span.end;
+    format!(in alloc; "program: unexpected at {start}..{end}\n")
+}
+
+#[tactic(auto, unfolding(crate::specs::Report::report, crate::specs::Report::lines_of))]
+fn rule_broken(alloc: Global, fault: StaticFault) -> Result<String, AllocError>
+    ensures { IfOk result (λ text. string_bytes text ≡ report (ProgramOutcome (Rule fault))) }
+{
+    let rule = fault.rule;
+    let node = fault.node.0;
+    format!(in alloc; "program: rule S{rule} at node {node}\n")
+}
+
+#[tactic(auto, unfolding(crate::specs::Report::report, crate::specs::Report::lines_of))]
+fn not_built(alloc: Global, node: NodeId) -> Result<String, AllocError>
+    ensures { IfOk result (λ text. string_bytes text ≡ report (ProgramOutcome (NotBuilt node))) }
+{
+    let node = node.0;
+    format!(in alloc; "program: not built at node {node}\n")
+}
+
+/// The report of a limit that is passed.
+#[tactic(auto, unfolding(crate::specs::Report::report, crate::specs::Report::lines_of))]
+fn limit_passed(alloc: Global, which: LimitKind, value: u64) -> Result<String, AllocError>
+    ensures { IfOk result (λ text. string_bytes text ≡ report (LimitOutcome which value)) }
+{
+    let word = limit_word(which);
+    format!(in alloc; "limit: {word} {value}\n")
+}
+
+/// The word of a limit.
+fn limit_word(which: LimitKind) -> &'static str
+    ensures { result.now ≡ word_of_limit which }
+{
+    match which {
+        LimitKind::ProgramBytes => "program",
+        LimitKind::PolicyBytes => "policy",
+        LimitKind::CertificateBytes => "certificate",
+        LimitKind::Literal => "literal",
+        LimitKind::NameLength => "name",
+        LimitKind::Nesting => "nesting",
+        LimitKind::Operators => "operators",
+        LimitKind::Nodes => "nodes",
+        LimitKind::Patterns => "patterns",
+        LimitKind::Conditions => "conditions",
+        LimitKind::Size => "size",
+        LimitKind::Total => "total",
+        LimitKind::Depth => "depth",
+        LimitKind::Instances => "instances",
+        LimitKind::Coefficient => "coefficient",
+        LimitKind::Make => "make",
     }
 }
 
