@@ -1,0 +1,182 @@
+//! Asks about proofs.
+use crate::ask::{Answer, list_at, text_at};
+use crate::formulas::{formula, formula_at, term};
+use crate::linear::{number_of, numbers_of};
+use ac_logic::Formula;
+use ac_proof::{CheckFault, ProofTree, Rule, StepPath};
+use ac_shared::Shared;
+use serde_json::{Value, json};
+use sqlite_items::Items;
+use std::alloc::{AllocError, Global};
+
+/// No JSON text that is read nests deeper.
+const DEEPEST: u64 = 128;
+
+/// `{"ok":true}`, or the path of the first step that is refused.
+pub fn check_proof(alloc: Global, ask: &Value) -> Answer {
+    let (Some(texts), Some(tree)) = (list_at(ask, "hyps"), ask.get("tree")) else {
+        return Ok(None);
+    };
+    let (Some(hypotheses), Some(tree)) = (formulas_of(alloc, texts)?, proof(alloc, tree, DEEPEST)?)
+    else {
+        return Ok(None);
+    };
+    match ac_proof::check_proof(alloc, hypotheses.as_slice(), &tree) {
+        Ok(()) => Ok(Some(json!(in alloc; {"ok": true})?)),
+        Err(CheckFault::Step(at)) => {
+            let path = path_list(alloc, &at)?;
+            Ok(Some(json!(in alloc; {"step": path})?))
+        }
+        Err(CheckFault::OutOfMemory) => Err(anyhow::Error::from(AllocError)),
+    }
+}
+
+fn formulas_of(alloc: Global, texts: &[Value]) -> Result<Option<Vec<Shared<Formula>>>, AllocError> {
+    let mut formulas = Vec::new(alloc);
+    for text in texts.iter() {
+        let Some(text) = text.as_str() else {
+            return Ok(None);
+        };
+        match formula(alloc, text)? {
+            Some(formula) => formulas.push(formula)?,
+            None => return Ok(None),
+        }
+    }
+    Ok(Some(formulas))
+}
+
+fn path_list(alloc: Global, at: &StepPath) -> Result<Vec<Value>, AllocError> {
+    let mut list = Vec::new(alloc);
+    for place in at.path.as_slice().iter() {
+        list.push(Value::from(*place))?;
+    }
+    Ok(list)
+}
+
+/// A proof of at most so many levels.
+fn proof(alloc: Global, asked: &Value, levels: u64) -> anyhow::Result<Option<ProofTree>> {
+    if levels == 0 {
+        return Ok(None);
+    }
+    let Some(rule) = rule(alloc, asked)? else {
+        return Ok(None);
+    };
+    let (Some(goal), Some(list)) = (
+        formula_at(alloc, asked, "goal")?,
+        list_at(asked, "premises"),
+    ) else {
+        return Ok(None);
+    };
+    let mut premises = Items::new(alloc);
+    for premise in list.iter() {
+        match proof(alloc, premise, levels - 1)? {
+            Some(premise) => premises.push(premise)?,
+            None => return Ok(None),
+        }
+    }
+    Ok(Some(ProofTree {
+        rule,
+        goal,
+        premises,
+    }))
+}
+
+/// A rule by its name and its data.
+fn rule(alloc: Global, asked: &Value) -> anyhow::Result<Option<Rule>> {
+    let (Some(name), Some(data)) = (text_at(asked, "rule"), list_at(asked, "data")) else {
+        return Ok(None);
+    };
+    match name {
+        "hyp" => Ok(Some(hypothesis(data))),
+        "all-intro" => Ok(Some(new_name(data))),
+        "all-elim" => Ok(opening(alloc, data)?),
+        "linear" => Ok(Some(combination(alloc, data)?)),
+        _ => Ok(plain_rule(name, data)),
+    }
+}
+
+/// A step whose data are not those of its rule is no instance of it. It stands as a hypothesis that no context has.
+fn no_instance() -> Rule {
+    Rule::Hyp { n: u64::MAX }
+}
+
+fn number(data: &[Value]) -> Option<u64> {
+    match data {
+        [field] => number_of(field),
+        _ => None,
+    }
+}
+
+fn hypothesis(data: &[Value]) -> Rule {
+    match number(data) {
+        Some(n) => Rule::Hyp { n },
+        None => no_instance(),
+    }
+}
+
+fn new_name(data: &[Value]) -> Rule {
+    let Some(number) = number(data) else {
+        return no_instance();
+    };
+    match u32::try_from(number) {
+        Ok(k) => Rule::AllIntro { k },
+        Err(_) => no_instance(),
+    }
+}
+
+fn opening(alloc: Global, data: &[Value]) -> Result<Option<Rule>, AllocError> {
+    let [field] = data else {
+        return Ok(Some(no_instance()));
+    };
+    let Some(text) = field.as_str() else {
+        return Ok(Some(no_instance()));
+    };
+    match term(alloc, text)? {
+        Some(t) => Ok(Some(Rule::AllElim { t })),
+        None => Ok(None),
+    }
+}
+
+fn combination(alloc: Global, data: &[Value]) -> Result<Rule, AllocError> {
+    match numbers_of(alloc, data)? {
+        Some(factors) => Ok(Rule::Linear {
+            factors: Items::from_vec(factors),
+        }),
+        None => Ok(no_instance()),
+    }
+}
+
+fn plain_rule(name: &str, data: &[Value]) -> Option<Rule> {
+    match named_rule(name) {
+        Some(rule) if data.is_empty() => Some(rule),
+        Some(_) => Some(no_instance()),
+        None => None,
+    }
+}
+
+/// The rules without data.
+fn named_rule(name: &str) -> Option<Rule> {
+    match name {
+        "true-intro" => Some(Rule::TrueIntro),
+        "false-elim" => Some(Rule::FalseElim),
+        "and-intro" => Some(Rule::AndIntro),
+        "and-left" => Some(Rule::AndLeft),
+        "and-right" => Some(Rule::AndRight),
+        "or-left" => Some(Rule::OrLeft),
+        "or-right" => Some(Rule::OrRight),
+        "or-elim" => Some(Rule::OrElim),
+        "implies-intro" => Some(Rule::ImpliesIntro),
+        "implies-elim" => Some(Rule::ImpliesElim),
+        "not-intro" => Some(Rule::NotIntro),
+        "not-elim" => Some(Rule::NotElim),
+        "classical" => Some(Rule::Classical),
+        "lab-intro" => Some(Rule::LabIntro),
+        "lab-elim" => Some(Rule::LabElim),
+        "eq-le" => Some(Rule::EqLe),
+        "le-total" => Some(Rule::LeTotal),
+        "eq-split" => Some(Rule::EqSplit),
+        "read-put" => Some(Rule::ReadPut),
+        "read-same" => Some(Rule::ReadSame),
+        _ => None,
+    }
+}
