@@ -1,4 +1,5 @@
--- Which programs have a verdict: those of at most 1,000 statements, each a write of a literal to a cell of an array.
+-- Which programs have a verdict: those of at most 1,000 statements, each a write of a literal at a literal index of an
+-- array with one literal extent.
 use Rattle.std.specs.Prelude.{◌≡◌, ℕ, ◌≤◌, Bool, false, ◌&&◌, List, ◌∷◌, ◌++◌, length, All, IsTrue, is_some, Option, Some, None}
 use Rattle.ac_tree.specs.declared.node.NodeId.{NodeId}
 use Rattle.ac_tree.specs.declared.program.Program.{Program}

@@ -18,8 +18,8 @@ pub record SpellsOne (bytes : List ℕ) (program : Program) : Type 0 where
   pub is : IsProgram bytes program
   pub built : IsBuilt program
 
--- The bytes spell one program with so many conditions, of which none is unproved, and no run of it, from any start,
--- violates bounds.
+-- The bytes spell one program with so many conditions, of which none is unproved, and no run of it, from any start
+-- within its declared ranges, violates bounds.
 pub record IsAccepted (bytes : List ℕ) (k : ℕ) : Type 0 where
   pub program : Program
   pub spelled : SpellsOne bytes program

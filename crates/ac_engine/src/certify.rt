@@ -33,8 +33,8 @@ const POLICY_BYTES: u64 = 262_144;
 
 /// Certifies a program under a policy: `certify PROGRAM POLICY CERT`, where CERT is none of the two other names.
 ///
-/// It reports on `out` and saves no file. Each status comes only as its clause says; the causes of two statuses exclude
-/// one another, so where a file's contents are told and no fault comes, its status is the one that is due.
+/// It reports on `out` and saves no file. Each status comes only as its clause says. A program that is built has no cause
+/// for the statuses Program and Limit, and none for both Accepted and Rejected (`a_built_program_has_one_verdict`).
 pub fn autocert<F: Files, S: Sink>(
     alloc: Global,
     words: &[String],

@@ -10,7 +10,7 @@ pub enum Status {
     Rejected,
     /// The words have no stated form.
     Usage,
-    /// The program is not built.
+    /// The bytes are no program, break a rule, or are those of a program that is not built.
     Program,
     /// The policy is not built.
     Policy,
