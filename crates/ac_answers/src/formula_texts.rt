@@ -1,9 +1,9 @@
 //! Texts that are read and printed again, and places where none goes on.
 use ac_logic::{
-    Change, FormulaFault, Sym, are_changes_closed, print_formula, print_term, read_formula,
-    read_term, substitute,
+    Change, FormulaFault, LabelKind, Sym, are_changes_closed, labels, print_formula, print_term,
+    read_formula, read_term, substitute,
 };
-use ac_tree::Name;
+use ac_tree::{Name, NodeId};
 use std::test::Fail;
 
 /// The byte of a refusal.
@@ -86,5 +86,20 @@ fn a_symbol_is_changed_into_a_term(rt: HostRuntime) -> Result<(), Fail> {
     assert!(rt; are_changes_closed(&changes));
     let after = substitute(alloc, &formula, &changes)?;
     assert_eq!(rt; print_formula(alloc, after.get())?.as_str(), "0 <= x + 1");
+    Ok(())
+}
+
+#[test]
+fn a_condition_with_one_aim_has_one_label(rt: HostRuntime) -> Result<(), Fail> {
+    let alloc = rt.alloc();
+    let Ok(formula) = read_formula(alloc, "@use 2 { 0 <= 3 and 3 + 1 <= 4 }") else {
+        panic!(rt; "a formula")
+    };
+    let labels = labels(alloc, formula.get())?;
+    let [label] = labels.as_slice() else {
+        panic!(rt; "one label")
+    };
+    assert_eq!(rt; label.kind, LabelKind::Need);
+    assert_eq!(rt; label.node, NodeId(2));
     Ok(())
 }
