@@ -38,119 +38,41 @@ const DECLARATION: &str = "begin const input var";
 
 const NUMBER: &str = "7 -";
 
-const EXTENT: &str = "q 7";
-
 const STATEMENT: &str = "q if for while use skip end";
 
-const OPERAND: &str = "q 7 - (";
-
-const TEST: &str = "q 7 - ( { not true false";
-
 /// The beginning of a program, and the tokens that may come behind it.
-const BEGINNINGS: [(&str, &str); 96] = [
+const BEGINNINGS: [(&str, &str); 24] = [
     ("", DECLARATION),
-    ("const", "q"),
-    ("const k", "="),
     ("const k =", NUMBER),
-    ("const k = -", "7"),
-    ("const k = 3", ";"),
-    ("const k = 3;", DECLARATION),
-    ("input", "q"),
     ("input n", "[ :"),
-    ("input n[", EXTENT),
     ("input n[4", ", ]"),
-    ("input n[m", ", ]"),
-    ("input n[4,", EXTENT),
-    ("input n[4,5", "]"),
-    ("input n[4,m", "]"),
-    ("input n[4]", ":"),
-    ("input n[4,5]", ":"),
-    ("input n :", NUMBER),
-    ("input n : -", "7"),
     ("input n : 0", ".."),
-    ("input n : -2 ..", NUMBER),
-    ("input n : 0 .. -", "7"),
     ("input n : 0 .. 9", ";"),
-    ("input n : 0 .. 9;", DECLARATION),
-    ("var", "q"),
     ("var x", "[ ;"),
-    ("var x[", EXTENT),
-    ("var x[4", ", ]"),
-    ("var x[4,", EXTENT),
-    ("var x[4,5", "]"),
-    ("var x[4]", ";"),
-    ("var x;", DECLARATION),
-    ("begin", STATEMENT),
     ("begin x", "[ :="),
-    ("begin x :=", OPERAND),
-    ("begin x := -", "q 7 ("),
     ("begin x := 1", "+ - * ;"),
-    ("begin x := 1 +", OPERAND),
-    ("begin x := 1 -", OPERAND),
-    ("begin x := 2 *", OPERAND),
-    ("begin x := 1 + -", "q 7 ("),
     ("begin x := y", "[ + - * ;"),
-    ("begin x := (", OPERAND),
     ("begin x := (1", "+ - * )"),
-    ("begin x := (y", "[ + - * )"),
-    ("begin x := (1)", "+ - * ;"),
-    ("begin x := a[", OPERAND),
     ("begin x := a[1", "+ - * , ]"),
-    ("begin x := a[1,", OPERAND),
-    ("begin x := a[1,2", "+ - * ]"),
-    ("begin x := a[1]", "+ - * ;"),
-    ("begin x := (a[1])", "+ - * ;"),
-    ("begin x := 1;", STATEMENT),
-    ("begin a[", OPERAND),
     ("begin a[1", "+ - * , ]"),
-    ("begin a[1,", OPERAND),
-    ("begin a[1,2", "+ - * ]"),
     ("begin a[1]", ":="),
-    ("begin a[1,2]", ":="),
-    ("begin a[1] :=", OPERAND),
-    ("begin a[1] := 3", "+ - * ;"),
-    ("begin skip", ";"),
-    ("begin use", "q"),
     ("begin use x", "as"),
-    ("begin use x as", "q"),
-    ("begin use x as r", ";"),
-    ("begin for", "q"),
-    ("begin for x", ":="),
-    ("begin for x :=", OPERAND),
     ("begin for x := n", "[ + - * to"),
-    ("begin for x := 0 to", OPERAND),
-    ("begin for x := 0 to 9", "+ - * do"),
-    ("begin for x := 0 to 9 do", STATEMENT),
     ("begin for x := 0 to 9 do end", STATEMENT),
-    ("begin while", TEST),
-    ("begin while not", "q 7 - ( { true false"),
     ("begin while true", "and or do"),
-    ("begin while not true", "and or do"),
-    ("begin while true and", TEST),
-    ("begin while true or", TEST),
     ("begin while 1", "+ - * = <> < <= > >="),
-    ("begin while y", "[ + - * = <> < <= > >="),
-    ("begin while (1", "+ - * )"),
-    ("begin while (1)", "+ - * = <> < <= > >="),
-    ("begin while 1 <", OPERAND),
     ("begin while 1 < y", "[ + - * and or do"),
-    ("begin while {", TEST),
-    ("begin while { true", "and or }"),
     ("begin while { 1 < 2", "+ - * and or }"),
-    ("begin while { true }", "and or do"),
-    ("begin while true do", STATEMENT),
-    ("begin if", TEST),
     ("begin if 1 < 2", "+ - * and or then"),
     (
         "begin if true then skip;",
         "q if for while use skip end else",
     ),
-    ("begin if true then else", STATEMENT),
     ("begin end", ""),
 ];
 
 /// The beginnings behind which `end` ends the program.
-const AT_THE_END: [&str; 3] = ["begin", "begin x := 1;", "begin for x := 0 to 9 do end"];
+const AT_THE_END: [&str; 1] = ["begin for x := 0 to 9 do end"];
 
 /// A part so many times, between two others.
 fn repeated(
