@@ -29,3 +29,4 @@ pub mod PrintConditions
 pub mod PrintStatements
 pub mod PrintNumbers
 pub mod PrintPrograms
+pub mod SpelledPrints

@@ -1,5 +1,5 @@
 -- Counting and numbering nodes, by the constructors that code sees.
-use Rattle.std.proofs.Common.{◌≡◌, ℕ, ◌+◌, List, [], ◌∷◌, refl, sym, ◌∙◌, ap, rules, arith}
+use Rattle.std.proofs.Common.{◌≡◌, ℕ, ◌+◌, List, ◌∷◌, refl, sym, ◌∙◌, ap, rules, arith}
 use mathlib.Core.Former.{Count}
 use Rattle.ac_tree.specs.declared.node.Node.{Node}
 use Rattle.ac_tree.specs.declared.program.Cond.{Cond}

@@ -257,8 +257,9 @@ program_prints p h =
       same = ap₂ (λ (ds : List Item) (xs : List Stmt). record { node = bare p.node; items = ds; body = xs }) i.same l.same;
     }
 
-pub program_reads_back : (p : Program) → IsNumbered p → IsPrintable p → SpellsUpToSpans (program_text p) p
-program_reads_back p n h =
+-- the text spells the program again where its numbers are those that its tree gives
+pub spelled_again : (p : Program) → changed_program spanless p ≡ numbered_program (changed_program bare p) → IsPrintable p → SpellsUpToSpans (program_text p) p
+spelled_again p n h =
     let r = program_prints p h in
     let spells_it : Spells (program_text p) (numbered_program r.tree) = record {
       tokens = r.tokens;
@@ -267,6 +268,8 @@ program_reads_back p n h =
       spelled = r.spelled;
       numbers = refl;
     } in
-    let same_up : IsSameUpToSpans (numbered_program r.tree) p =
-    program_numbered r.tree ∙ (ap numbered_program r.same ∙ (sym (program_numbered p) ∙ ap (changed_program spanless) (sym n))) in
+    let same_up : IsSameUpToSpans (numbered_program r.tree) p = program_numbered r.tree ∙ (ap numbered_program r.same ∙ sym n) in
     record { spelled = numbered_program r.tree; spells = spells_it; same = same_up }
+
+pub program_reads_back : (p : Program) → IsNumbered p → IsPrintable p → SpellsUpToSpans (program_text p) p
+program_reads_back p n h = spelled_again p (ap (changed_program spanless) n ∙ program_numbered p) h

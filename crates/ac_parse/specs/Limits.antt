@@ -1,5 +1,5 @@
 -- What is counted while a text is read: open constructs, and operators that stand in one place.
-use Rattle.std.specs.Prelude.{◌≡◌, ℕ, ◌+◌, ◌-◌, ◌≤◌, List, ◌++◌, fold}
+use Rattle.std.specs.Prelude.{◌≡◌, ℕ, ◌+◌, ◌-◌, ◌≤◌, ◌++◌, fold}
 use Rattle.ac_tree.specs.declared.token.Keyword.TheVariants as keyword
 use Rattle.ac_tree.specs.declared.token.Mark.{Mark}
 use Rattle.ac_tree.specs.declared.token.Mark.TheVariants as mark

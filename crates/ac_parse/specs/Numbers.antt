@@ -1,15 +1,12 @@
 -- A tree whose nodes got their numbers from `first` on, with the number behind them.
 use Rattle.std.specs.Prelude.{◌≡◌, ℕ, ◌+◌, ◌≤◌, ◌<◌, List, length, Option, Some, None}
 use Rattle.ac_tree.specs.declared.program.Cond.{Cond}
-use Rattle.ac_tree.specs.declared.program.CondKind.{CondKind}
 use Rattle.ac_tree.specs.declared.program.Expr.{Expr}
-use Rattle.ac_tree.specs.declared.program.ExprKind.{ExprKind}
 use Rattle.ac_tree.specs.declared.program.Index.{Index}
 use Rattle.ac_tree.specs.declared.program.Item.{Item}
 use Rattle.ac_tree.specs.declared.program.Program.{Program}
 use Rattle.ac_tree.specs.declared.program.Stmt.{Stmt}
-use Rattle.ac_tree.specs.declared.program.StmtKind.{StmtKind}
-use Rattle.ac_tree.specs.Numbering.{at, expr_nodes, index_nodes, cond_nodes, stmt_nodes, list_nodes, program_nodes, numbered_index, numbered_expr, numbered_kind, numbered_cond, numbered_stmt, numbered_list, numbered_items, numbered_program}
+use Rattle.ac_tree.specs.Numbering.{at, expr_nodes, index_nodes, cond_nodes, stmt_nodes, list_nodes, program_nodes, numbered_index, numbered_expr, numbered_cond, numbered_stmt, numbered_list, numbered_items, numbered_program}
 
 abbrev pub NumbersExpr : ℕ → Expr → Expr × ℕ → Type 0
 NumbersExpr first e r = (r.0 ≡ numbered_expr first e) × (r.1 ≡ first + expr_nodes e.kind)

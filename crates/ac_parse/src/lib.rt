@@ -24,6 +24,6 @@ mod tokens;
 
 pub use laws::{a_program_within_the_limits_is_parsed, bytes_spell_at_most_one_program};
 pub use parsing::{ParseFault, parse};
-pub use print_laws::a_printed_program_reads_back;
+pub use print_laws::{a_parsed_program_prints_back, a_printed_program_reads_back};
 pub use print_program::print;
 pub use tokens::{TokenFault, tokenize, utf8_text};
