@@ -1,7 +1,6 @@
 -- Counting and numbering nodes, by the constructors that code sees.
 use Rattle.std.proofs.Common.{◌≡◌, ℕ, ◌+◌, List, ◌∷◌, refl, sym, ◌∙◌, ap, rules, arith}
 use mathlib.Core.Former.{Count}
-use Rattle.ac_tree.specs.declared.node.Node.{Node}
 use Rattle.ac_tree.specs.declared.program.Cond.{Cond}
 use Rattle.ac_tree.specs.declared.program.CondKind.{the_lemmas as cond_lemmas}
 use Rattle.ac_tree.specs.declared.program.CondKind.TheVariants as c
@@ -16,7 +15,7 @@ use Rattle.ac_tree.specs.declared.program.StmtKind.{StmtKind, the_lemmas as stmt
 use Rattle.ac_tree.specs.declared.program.StmtKind.TheVariants as s
 use Rattle.ac_tree.specs.Grammar.{Word}
 use Rattle.ac_tree.specs.Numbering.{at, expr_nodes, index_nodes, cond_nodes, stmt_nodes, block_nodes, list_nodes, numbered, numbered_index, numbered_expr, numbered_kind, numbered_cond, numbered_stmt, numbered_block, numbered_list}
-use Rattle.ac_parse.specs.Numbers.{NumbersExpr, NumbersStmt, NumbersBlock}
+use Rattle.ac_parse.specs.Numbers.{NumbersExpr, NumbersStmtKind, NumbersBlock}
 use Rattle.ac_parse.specs.Opened.{hidden, expr_shape, expr_child, cond_shape, cond_child}
 
 pub nodes-Num : (k : ℕ) → expr_nodes (e.Num k) ≡ 1
@@ -193,24 +192,24 @@ pub numbered-While : (n : ℕ) (t : Cond) (xs : List Stmt) → numbered_stmt n (
 numbered-While n t xs = first_of (search (rules, stmt_lemmas, block_nodes-items, numbered_block-items), grind (arith, stmt_lemmas, block_nodes-items, numbered_block-items))
 
 -- a `for` has too many parts for a search
-pub for-numbered : (st : Stmt) (x y : Word) (a b a' b' : Expr) (xs ys : List Stmt) (n : Node) (first second third fourth next : ℕ) →
-    st.kind ≡ s.For x a b xs → n ≡ at first st.node → second ≡ first + 1 → y ≡ x →
+pub for-numbered : (k : StmtKind) (x y : Word) (a b a' b' : Expr) (xs ys : List Stmt) (first second third fourth next : ℕ) →
+    k ≡ s.For x a b xs → second ≡ first + 1 → y ≡ x →
     NumbersExpr second a (a', third) → NumbersExpr third b (b', fourth) → NumbersBlock fourth xs (ys, next) →
-    NumbersStmt first st (record { node = n; kind = s.For y a' b' ys }, next)
-for-numbered st x y a b a' b' xs ys n first second third fourth next k h m q ea eb ex =
+    NumbersStmtKind first k (s.For y a' b' ys, next)
+for-numbered k x y a b a' b' xs ys first second third fourth next h m q ea eb ex =
     let from_low : third ≡ first + 1 + expr_nodes a.kind = ea.1 ∙ ap (λ i. i + expr_nodes a.kind) m in
     let from_high : fourth ≡ first + 1 + expr_nodes a.kind + expr_nodes b.kind = eb.1 ∙ ap (λ i. i + expr_nodes b.kind) from_low in
     let low : a' ≡ numbered_expr (first + 1) a = ea.0 ∙ ap (λ i. numbered_expr i a) m in
     let high : b' ≡ numbered_expr (first + 1 + expr_nodes a.kind) b = eb.0 ∙ ap (λ i. numbered_expr i b) from_low in
     let body : ys ≡ numbered_list (first + 1 + expr_nodes a.kind + expr_nodes b.kind) xs = ex.0 ∙ ap (λ i. numbered_list i xs) from_high in
-    let made : s.For y a' b' ys ≡ numbered_stmt first st.kind =
+    let made : s.For y a' b' ys ≡ numbered_stmt first k =
     ap (λ (w : Word). s.For w a' b' ys) q
     ∙ (ap (λ (w : Expr). s.For x w b' ys) low
     ∙ (ap (λ (w : Expr). s.For x (numbered_expr (first + 1) a) w ys) high
     ∙ (ap (λ (w : List Stmt). s.For x (numbered_expr (first + 1) a) (numbered_expr (first + 1 + expr_nodes a.kind) b) w) body
-    ∙ sym (ap (numbered_stmt first) k ∙ numbered-For first x a b xs)))) in
-    let counted = ap stmt_nodes k ∙ nodes-For x a b xs in
-    (ap (λ (v : Node). record { node = v; kind = s.For y a' b' ys }) h ∙ ap (λ (w : StmtKind). record { node = at first st.node; kind = w }) made, omega (arith, counted, ex.1, from_high))
+    ∙ sym (ap (numbered_stmt first) h ∙ numbered-For first x a b xs)))) in
+    let counted = ap stmt_nodes h ∙ nodes-For x a b xs in
+    (made, omega (arith, counted, ex.1, from_high))
 
 pub ruleset expr_rules = (
   expr_lemmas,

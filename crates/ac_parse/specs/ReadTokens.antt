@@ -1,4 +1,5 @@
 -- Reading the tokens of a program, with its limits.
+-- No promise rests on this file: it says what the code keeps on the way.
 use Rattle.std.specs.Prelude.{ℕ, nat_lt, Bool, if◌then◌else◌, List, [], ◌∷◌, Option, Some, None, Result, Ok, Err}
 use Rattle.ac_tree.specs.declared.program.Program.{Program}
 use Rattle.ac_tree.specs.declared.token.Token.{Token}

@@ -1,6 +1,6 @@
 ghost use Rattle.std.specs.Prelude.{◌≡◌, ◌+◌, IfOk};
 ghost use Rattle.ac_tree.specs.Numbering.{at};
-ghost use Rattle.ac_parse.specs.Numbers.{NumbersExpr, NumbersIndex, NumbersCond, NumbersStmt, NumbersBlock, NumbersItem, NumbersItems, NumbersProgram};
+ghost use Rattle.ac_parse.specs.Numbers.{NumbersExpr, NumbersExprKind, NumbersIndex, NumbersCond, NumbersCondKind, NumbersStmt, NumbersStmtKind, NumbersBlock, NumbersItem, NumbersItems, NumbersProgram};
 
 use ac_tree::{
     Cond, CondKind, Expr, ExprKind, Extent, Extents, Index, Item, ItemKind, Name, Node, NodeId,
@@ -11,6 +11,9 @@ use std::alloc::{AllocError, Global};
 
 /// The greatest number of nodes of a program.
 const NODES: u32 = 50_000;
+
+/// A part of a program with its nodes numbered, and the next number.
+type NumberResult<T> = Result<(T, u32), AllocError>;
 
 fn numbered(node: &Node, number: u32) -> Node
     ensures { result ≡ at number node.now }
@@ -29,283 +32,180 @@ fn behind(number: u32) -> Result<u32, AllocError>
 }
 
 #[cycle(expr)]
-#[tactic(auto, using(crate::proofs::NumberRules::expr_rules))]
-fn number_expr(alloc: Global, expr: &Expr, first: u32) -> Result<(Expr, u32), AllocError>
+fn number_expr(alloc: Global, expr: &Expr, first: u32) -> NumberResult<Expr>
     ensures { IfOk result (λ r. NumbersExpr first expr.now r) }
 {
     let node = numbered(&expr.node, first);
+    let (kind, next) = number_expr_kind(alloc, &expr.kind, first)?;
+    Ok((Expr { node, kind }, next))
+}
+
+/// The kind of the node with the number `first`. What stands below it has the numbers behind.
+#[cycle(expr)]
+#[tactic(auto, using(crate::proofs::NumberRules::expr_rules))]
+fn number_expr_kind(alloc: Global, kind: &ExprKind, first: u32) -> NumberResult<ExprKind>
+    ensures { IfOk result (λ r. NumbersExprKind first kind.now r) }
+{
     let second = behind(first)?;
-    match &expr.kind {
-        ExprKind::Num(number) => Ok((
-            Expr {
-                node,
-                kind: ExprKind::Num(*number),
-            },
-            second,
-        )),
-        ExprKind::Get(name) => {
-            let name = name.clone()?;
-            Ok((
-                Expr {
-                    node,
-                    kind: ExprKind::Get(name),
-                },
-                second,
-            ))
-        }
+    match kind {
+        ExprKind::Num(number) => Ok((ExprKind::Num(*number), second)),
+        ExprKind::Get(name) => Ok((ExprKind::Get(name.clone()?), second)),
         ExprKind::Read(name, index) => {
-            let name = name.clone()?;
             let (index, next) = number_index(alloc, index, second)?;
-            Ok((
-                Expr {
-                    node,
-                    kind: ExprKind::Read(name, index),
-                },
-                next,
-            ))
+            Ok((ExprKind::Read(name.clone()?, index), next))
         }
         ExprKind::Neg(inner) => {
-            let (inner, next) = number_expr(alloc, inner.get(), second)?;
-            let inner = Boxed::new(alloc, inner)?;
-            Ok((
-                Expr {
-                    node,
-                    kind: ExprKind::Neg(inner),
-                },
-                next,
-            ))
+            let (inner, next) = number_boxed_expr(alloc, inner, second)?;
+            Ok((ExprKind::Neg(inner), next))
         }
         ExprKind::Add(left, right) => {
-            let (left, third) = number_expr(alloc, left.get(), second)?;
-            let left = Boxed::new(alloc, left)?;
-            let (right, next) = number_expr(alloc, right.get(), third)?;
-            let right = Boxed::new(alloc, right)?;
-            Ok((
-                Expr {
-                    node,
-                    kind: ExprKind::Add(left, right),
-                },
-                next,
-            ))
+            let (left, third) = number_boxed_expr(alloc, left, second)?;
+            let (right, next) = number_boxed_expr(alloc, right, third)?;
+            Ok((ExprKind::Add(left, right), next))
         }
         ExprKind::Sub(left, right) => {
-            let (left, third) = number_expr(alloc, left.get(), second)?;
-            let left = Boxed::new(alloc, left)?;
-            let (right, next) = number_expr(alloc, right.get(), third)?;
-            let right = Boxed::new(alloc, right)?;
-            Ok((
-                Expr {
-                    node,
-                    kind: ExprKind::Sub(left, right),
-                },
-                next,
-            ))
+            let (left, third) = number_boxed_expr(alloc, left, second)?;
+            let (right, next) = number_boxed_expr(alloc, right, third)?;
+            Ok((ExprKind::Sub(left, right), next))
         }
         ExprKind::Mul(left, right) => {
-            let (left, third) = number_expr(alloc, left.get(), second)?;
-            let left = Boxed::new(alloc, left)?;
-            let (right, next) = number_expr(alloc, right.get(), third)?;
-            let right = Boxed::new(alloc, right)?;
-            Ok((
-                Expr {
-                    node,
-                    kind: ExprKind::Mul(left, right),
-                },
-                next,
-            ))
+            let (left, third) = number_boxed_expr(alloc, left, second)?;
+            let (right, next) = number_boxed_expr(alloc, right, third)?;
+            Ok((ExprKind::Mul(left, right), next))
         }
     }
 }
 
 #[cycle(expr)]
 #[tactic(auto, using(crate::proofs::NumberRules::expr_rules))]
-fn number_index(alloc: Global, index: &Index, first: u32) -> Result<(Index, u32), AllocError>
+fn number_index(alloc: Global, index: &Index, first: u32) -> NumberResult<Index>
     ensures { IfOk result (λ r. NumbersIndex first index.now r) }
 {
     match index {
         Index::One(only) => {
-            let (only, next) = number_expr(alloc, only.get(), first)?;
-            let only = Boxed::new(alloc, only)?;
+            let (only, next) = number_boxed_expr(alloc, only, first)?;
             Ok((Index::One(only), next))
         }
         Index::Two(row, column) => {
-            let (row, second) = number_expr(alloc, row.get(), first)?;
-            let row = Boxed::new(alloc, row)?;
-            let (column, next) = number_expr(alloc, column.get(), second)?;
-            let column = Boxed::new(alloc, column)?;
+            let (row, second) = number_boxed_expr(alloc, row, first)?;
+            let (column, next) = number_boxed_expr(alloc, column, second)?;
             Ok((Index::Two(row, column), next))
         }
     }
 }
 
-#[tactic(auto, using(crate::proofs::NumberRules::cond_rules))]
-fn number_cond(alloc: Global, cond: &Cond, first: u32) -> Result<(Cond, u32), AllocError>
+#[cycle(expr)]
+fn number_boxed_expr(alloc: Global, expr: &Boxed<Expr>, first: u32) -> NumberResult<Boxed<Expr>>
+    ensures { IfOk result (λ r. NumbersExpr first expr.now r) }
+{
+    let (expr, next) = number_expr(alloc, expr.get(), first)?;
+    Ok((Boxed::new(alloc, expr)?, next))
+}
+
+#[cycle(cond)]
+fn number_cond(alloc: Global, cond: &Cond, first: u32) -> NumberResult<Cond>
     ensures { IfOk result (λ r. NumbersCond first cond.now r) }
 {
     let node = numbered(&cond.node, first);
+    let (kind, next) = number_cond_kind(alloc, &cond.kind, first)?;
+    Ok((Cond { node, kind }, next))
+}
+
+#[cycle(cond)]
+#[tactic(auto, using(crate::proofs::NumberRules::cond_rules))]
+fn number_cond_kind(alloc: Global, kind: &CondKind, first: u32) -> NumberResult<CondKind>
+    ensures { IfOk result (λ r. NumbersCondKind first kind.now r) }
+{
     let second = behind(first)?;
-    match &cond.kind {
-        CondKind::True => Ok((
-            Cond {
-                node,
-                kind: CondKind::True,
-            },
-            second,
-        )),
-        CondKind::False => Ok((
-            Cond {
-                node,
-                kind: CondKind::False,
-            },
-            second,
-        )),
+    match kind {
+        CondKind::True => Ok((CondKind::True, second)),
+        CondKind::False => Ok((CondKind::False, second)),
         CondKind::Rel(relation, left, right) => {
-            let (left, third) = number_expr(alloc, left.get(), second)?;
-            let left = Boxed::new(alloc, left)?;
-            let (right, next) = number_expr(alloc, right.get(), third)?;
-            let right = Boxed::new(alloc, right)?;
-            Ok((
-                Cond {
-                    node,
-                    kind: CondKind::Rel(*relation, left, right),
-                },
-                next,
-            ))
+            let (left, third) = number_boxed_expr(alloc, left, second)?;
+            let (right, next) = number_boxed_expr(alloc, right, third)?;
+            Ok((CondKind::Rel(*relation, left, right), next))
         }
         CondKind::Not(inner) => {
-            let (inner, next) = number_cond(alloc, inner.get(), second)?;
-            let inner = Boxed::new(alloc, inner)?;
-            Ok((
-                Cond {
-                    node,
-                    kind: CondKind::Not(inner),
-                },
-                next,
-            ))
+            let (inner, next) = number_boxed_cond(alloc, inner, second)?;
+            Ok((CondKind::Not(inner), next))
         }
         CondKind::And(left, right) => {
-            let (left, third) = number_cond(alloc, left.get(), second)?;
-            let left = Boxed::new(alloc, left)?;
-            let (right, next) = number_cond(alloc, right.get(), third)?;
-            let right = Boxed::new(alloc, right)?;
-            Ok((
-                Cond {
-                    node,
-                    kind: CondKind::And(left, right),
-                },
-                next,
-            ))
+            let (left, third) = number_boxed_cond(alloc, left, second)?;
+            let (right, next) = number_boxed_cond(alloc, right, third)?;
+            Ok((CondKind::And(left, right), next))
         }
         CondKind::Or(left, right) => {
-            let (left, third) = number_cond(alloc, left.get(), second)?;
-            let left = Boxed::new(alloc, left)?;
-            let (right, next) = number_cond(alloc, right.get(), third)?;
-            let right = Boxed::new(alloc, right)?;
-            Ok((
-                Cond {
-                    node,
-                    kind: CondKind::Or(left, right),
-                },
-                next,
-            ))
+            let (left, third) = number_boxed_cond(alloc, left, second)?;
+            let (right, next) = number_boxed_cond(alloc, right, third)?;
+            Ok((CondKind::Or(left, right), next))
         }
     }
 }
 
+#[cycle(cond)]
+fn number_boxed_cond(alloc: Global, cond: &Boxed<Cond>, first: u32) -> NumberResult<Boxed<Cond>>
+    ensures { IfOk result (λ r. NumbersCond first cond.now r) }
+{
+    let (cond, next) = number_cond(alloc, cond.get(), first)?;
+    Ok((Boxed::new(alloc, cond)?, next))
+}
+
 #[cycle(stmt)]
-#[tactic(auto, using(crate::proofs::NumberRules::stmt_rules))]
-fn number_stmt(alloc: Global, stmt: &Stmt, first: u32) -> Result<(Stmt, u32), AllocError>
+fn number_stmt(alloc: Global, stmt: &Stmt, first: u32) -> NumberResult<Stmt>
     ensures { IfOk result (λ r. NumbersStmt first stmt.now r) }
 {
     let node = numbered(&stmt.node, first);
+    let (kind, next) = number_stmt_kind(alloc, &stmt.kind, first)?;
+    Ok((Stmt { node, kind }, next))
+}
+
+#[cycle(stmt)]
+#[tactic(auto, using(crate::proofs::NumberRules::stmt_rules))]
+fn number_stmt_kind(alloc: Global, kind: &StmtKind, first: u32) -> NumberResult<StmtKind>
+    ensures { IfOk result (λ r. NumbersStmtKind first kind.now r) }
+{
     let second = behind(first)?;
-    match &stmt.kind {
+    match kind {
         StmtKind::Set { name, value } => {
             let name = name.clone()?;
             let (value, next) = number_expr(alloc, value, second)?;
-            Ok((
-                Stmt {
-                    node,
-                    kind: StmtKind::Set { name, value },
-                },
-                next,
-            ))
+            Ok((StmtKind::Set { name, value }, next))
         }
         StmtKind::Put { name, index, value } => {
             let name = name.clone()?;
             let (index, third) = number_index(alloc, index, second)?;
             let (value, next) = number_expr(alloc, value, third)?;
-            Ok((
-                Stmt {
-                    node,
-                    kind: StmtKind::Put { name, index, value },
-                },
-                next,
-            ))
+            Ok((StmtKind::Put { name, index, value }, next))
         }
         StmtKind::If { test, yes, no } => {
             let (test, third) = number_cond(alloc, test, second)?;
             let (yes, fourth) = number_block(alloc, yes, third)?;
             let (no, next) = number_block(alloc, no, fourth)?;
-            Ok((
-                Stmt {
-                    node,
-                    kind: StmtKind::If { test, yes, no },
-                },
-                next,
-            ))
+            Ok((StmtKind::If { test, yes, no }, next))
         }
         StmtKind::For { name, lo, hi, body } => {
             let name = name.clone()?;
             let (lo, third) = number_expr(alloc, lo, second)?;
             let (hi, fourth) = number_expr(alloc, hi, third)?;
             let (body, next) = number_block(alloc, body, fourth)?;
-            Ok((
-                Stmt {
-                    node,
-                    kind: StmtKind::For { name, lo, hi, body },
-                },
-                next,
-            ))
+            Ok((StmtKind::For { name, lo, hi, body }, next))
         }
         StmtKind::While { test, body } => {
             let (test, third) = number_cond(alloc, test, second)?;
             let (body, next) = number_block(alloc, body, third)?;
-            Ok((
-                Stmt {
-                    node,
-                    kind: StmtKind::While { test, body },
-                },
-                next,
-            ))
+            Ok((StmtKind::While { test, body }, next))
         }
         StmtKind::Hand { name, role } => {
             let name = name.clone()?;
             let role = role.clone()?;
-            Ok((
-                Stmt {
-                    node,
-                    kind: StmtKind::Hand { name, role },
-                },
-                second,
-            ))
+            Ok((StmtKind::Hand { name, role }, second))
         }
-        StmtKind::Skip => Ok((
-            Stmt {
-                node,
-                kind: StmtKind::Skip,
-            },
-            second,
-        )),
+        StmtKind::Skip => Ok((StmtKind::Skip, second)),
     }
 }
 
 #[cycle(stmt)]
-fn number_block(
-    alloc: Global,
-    block: &Items<Stmt>,
-    first: u32,
-) -> Result<(Items<Stmt>, u32), AllocError>
+fn number_block(alloc: Global, block: &Items<Stmt>, first: u32) -> NumberResult<Items<Stmt>>
     ensures { IfOk result (λ r. NumbersBlock first block.now r) }
 {
     let mut numbered = Items::new(alloc);
@@ -368,7 +268,7 @@ fn copy_kind(kind: &ItemKind) -> Result<ItemKind, AllocError>
     }
 }
 
-fn number_item(item: &Item, number: u32) -> Result<(Item, u32), AllocError>
+fn number_item(item: &Item, number: u32) -> NumberResult<Item>
     ensures { IfOk result (λ r. NumbersItem number item.now r) }
 {
     let node = numbered(&item.node, number);
@@ -378,11 +278,7 @@ fn number_item(item: &Item, number: u32) -> Result<(Item, u32), AllocError>
     Ok((Item { node, name, kind }, next))
 }
 
-fn number_items(
-    alloc: Global,
-    items: &Items<Item>,
-    first: u32,
-) -> Result<(Items<Item>, u32), AllocError>
+fn number_items(alloc: Global, items: &Items<Item>, first: u32) -> NumberResult<Items<Item>>
     ensures { IfOk result (λ r. NumbersItems first items.now r) }
 {
     let mut numbered = Items::new(alloc);

@@ -9,7 +9,7 @@ use ac_tree::{LimitKind, Program, Span, Token};
 use std::alloc::{AllocError, Global};
 use thiserror::Error;
 
-/// The greatest lengths and numbers of a program.
+/// The greatest length of a program, in bytes.
 const BYTES: usize = 1_048_576;
 
 /// Why a text is no program, with the place. Of a limit `value` is the greatest number that is allowed.
