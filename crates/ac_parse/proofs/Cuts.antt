@@ -172,7 +172,7 @@ stray_scans at b Dot (c ∷ rest) f =
     before_nil (scan (AfterSign at Dot) (at + 1) (c ∷ rest)) ∙ ap (λ o. go_on (with_next o at Dot (at + 1) (begin (at + 1) c (kind_of c))) (at + 1) rest) f
 stray_scans at b _ rest f = absurd f
 
-zero_kind : kind_of 48 ≡ Digit
+pub zero_kind : kind_of 48 ≡ Digit
 unfolding kind_of
 zero_kind = refl
 

@@ -19,6 +19,9 @@ pub mod ProgramSound
 pub mod ProgramEnds
 pub mod Refused
 pub mod OneProgram
+pub mod OneCut
+pub mod OneFault
+pub mod OneRefusal
 pub mod Parsed
 pub mod NumberRules
 pub mod NumberLists

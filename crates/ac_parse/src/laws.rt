@@ -14,3 +14,8 @@ pub fn bytes_spell_at_most_one_program()
 pub fn a_program_within_the_limits_is_parsed()
     ensures { (bytes : List ℕ) → (p : Program) → (f : ParseFault) → SpellsWithin bytes p → IsParseFault bytes f → f ≡ OutOfMemory }
 {}
+
+/// The law that bytes have at most one cause of refusal beside want of memory.
+pub fn bytes_have_at_most_one_refusal()
+    ensures { (bytes : List ℕ) → (f g : ParseFault) → IsParseFault bytes f → IsParseFault bytes g → (f ≡ OutOfMemory → ⊥) → (g ≡ OutOfMemory → ⊥) → f ≡ g }
+{}

@@ -22,7 +22,10 @@ mod stack;
 mod statement;
 mod tokens;
 
-pub use laws::{a_program_within_the_limits_is_parsed, bytes_spell_at_most_one_program};
+pub use laws::{
+    a_program_within_the_limits_is_parsed, bytes_have_at_most_one_refusal,
+    bytes_spell_at_most_one_program,
+};
 pub use parsing::{ParseFault, parse};
 pub use print_laws::{a_parsed_program_prints_back, a_printed_program_reads_back};
 pub use print_program::print;
