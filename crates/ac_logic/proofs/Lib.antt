@@ -19,3 +19,4 @@ mod Spelling
 mod RoundTerm
 mod RoundFormula
 mod Pieces
+mod OneRefusal

@@ -1,7 +1,6 @@
 -- Which tokens are the text of a term or a formula, a line for each production.
 -- `SpellsTerm e l t ts rest`: the tokens ts begin with a text of t at the level l, behind which the tokens rest follow.
 use Rattle.std.specs.Prelude.{◌≡◌, ℕ, zero, suc, ℤ, pos, negsuc, ◌+◌, ◌^◌, List, [], ◌∷◌, ◌++◌, Option, Some, None, Bool, true, false, nat_lt, nat_le, if◌then◌else◌, bytes_eq}
-use Rattle.ac_logic.specs.declared.label.Label.{Label}
 use Rattle.ac_logic.specs.declared.label.LabelKind.{LabelKind}
 use Rattle.ac_logic.specs.declared.label.LabelKind.TheVariants as kind
 use Rattle.ac_logic.specs.declared.formula.Sym.{Sym}

@@ -5,7 +5,7 @@ use Rattle.ac_tree.specs.declared.token.Keyword.TheVariants as keyword
 use Rattle.ac_tree.specs.declared.token.Sign.{Sign}
 use Rattle.ac_tree.specs.declared.token.Sign.TheVariants as sign
 use Rattle.ac_tree.specs.declared.token.ByteKind.{ByteKind}
-use Rattle.ac_tree.specs.declared.token.ByteKind.TheVariants.{Newline, Blank, Letter, Digit, Underscore, Hash, At, Dot, Lone, Other}
+use Rattle.ac_tree.specs.declared.token.ByteKind.TheVariants.{Newline, Blank, Letter, Digit, Underscore, Hash, At, Lone}
 use Rattle.ac_tree.specs.Tokens.{kind_of, joined, keyword_of}
 use Rattle.ac_logic.specs.declared.mark.Mark.{Mark}
 use Rattle.ac_logic.specs.declared.mark.Mark.TheVariants as mark

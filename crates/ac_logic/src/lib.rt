@@ -43,4 +43,4 @@ pub use print::{print_formula, print_term};
 pub use read::{FormulaFault, read_formula, read_term};
 pub use readable::{is_readable, is_readable_term};
 pub use substitution::substitute;
-pub use text_laws::{one_tree_law, print_reads_back_law};
+pub use text_laws::{one_refusal_law, one_tree_law, print_reads_back_law};
