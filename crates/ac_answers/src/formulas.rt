@@ -1,7 +1,7 @@
 //! Asks about formulas and terms.
 use crate::ask::{Answer, list_at, text_at};
 use crate::height::is_low;
-use ac_logic::{ArrayTerm, Change, Formula, FormulaFault, Label, LabelKind, Sym, Term};
+use ac_logic::{ArrayTerm, Change, Formula, FormulaFault, Label, Sym, Term};
 use ac_shared::Shared;
 use serde_json::{Value, json};
 use std::alloc::{AllocError, Global};
@@ -72,28 +72,9 @@ fn label_list(alloc: Global, formula: &Formula) -> anyhow::Result<Value> {
 }
 
 fn label_pair(alloc: Global, label: Label) -> anyhow::Result<Value> {
-    let kind = kind_word(label.kind);
+    let kind = label.kind.text();
     let node = label.node.0;
     Ok(json!(in alloc; [kind, node])?)
-}
-
-/// The word that formula text has for a kind of label.
-fn kind_word(kind: LabelKind) -> &'static str {
-    match kind {
-        LabelKind::Range => "range",
-        LabelKind::Header => "header",
-        LabelKind::Exit => "exit",
-        LabelKind::Invariant => "invariant",
-        LabelKind::Assumed => "assumed",
-        LabelKind::Test => "test",
-        LabelKind::Denied => "denied",
-        LabelKind::Guard => "guard",
-        LabelKind::Set => "set",
-        LabelKind::Need => "use",
-        LabelKind::Entry => "entry",
-        LabelKind::Keep => "keep",
-        LabelKind::Barrier => "barrier",
-    }
 }
 
 /// `{"at":N}`, or the term's print.

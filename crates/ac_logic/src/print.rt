@@ -3,7 +3,7 @@ ghost use Rattle.ac_logic.specs.Printing.{is_braced as braced_formula, when, kin
 
 use crate::formula::{Formula, Term};
 use crate::label::Label;
-use crate::term_text::{is_braced, kind_word, write_count, write_term};
+use crate::term_text::{is_braced, write_count, write_term};
 use std::alloc::{AllocError, Global};
 
 fn open_operand(out: &mut String, formula: &Formula) -> Result<(), AllocError>
@@ -76,7 +76,7 @@ fn write_label(out: &mut String, label: &Label) -> Result<(), AllocError>
     ensures { OnOk result (string_bytes out.new ≡ string_bytes out.old ++ codes "@" ++ kind_text label.now.kind ++ codes " " ++ decimal label.now.node.0 ++ codes " { ") }
 {
     out.push_str("@")?;
-    out.push_str(kind_word(label.kind))?;
+    out.push_str(label.kind.text())?;
     out.push_str(" ")?;
     write_count(out, u64::from(label.node.0))?;
     out.push_str(" { ")

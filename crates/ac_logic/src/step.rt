@@ -21,7 +21,6 @@ use crate::sort::{
     PartStart, bound_in, connective_in, is_close_paren, is_open_brace, is_open_paren, literal_in,
     name_in, part_start,
 };
-use crate::term_text::kind_word;
 use ac_tree::{Name, NodeId};
 use std::alloc::{AllocError, Global};
 
@@ -106,7 +105,7 @@ fn kind_among(kinds: &[LabelKind], word: &str) -> Option<LabelKind>
     match kinds {
         [] => None,
         [kind, rest @ ..] => {
-            if kind_word(*kind) == word {
+            if kind.text() == word {
                 Some(*kind)
             } else {
                 kind_among(rest, word)

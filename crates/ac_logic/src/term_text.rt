@@ -1,31 +1,9 @@
 ghost use Rattle.std.specs.Prelude.{◌≡◌, ◌++◌, List, IfOk, OnOk, string_bytes, ◌+◌, ◌-◌, codes, is_ok, decimal};
 ghost use Rattle.std.specs.Fmt.{signed_decimal};
-ghost use Rattle.ac_logic.specs.Printing.{kind_text, text_of_sym, is_grouped as grouped_term, is_zero as zero_term, is_braced as braced_formula, when, text_of_term, text_of_array, text_of_formula};
+ghost use Rattle.ac_logic.specs.Printing.{text_of_sym, is_grouped as grouped_term, is_zero as zero_term, is_braced as braced_formula, when, text_of_term, text_of_array, text_of_formula};
 
 use crate::formula::{ArrayTerm, Formula, Sym, Term};
-use crate::label::LabelKind;
 use std::alloc::{AllocError, Global};
-
-/// The word of a kind of label.
-pub(crate) fn kind_word(kind: LabelKind) -> &'static str
-    ensures { result.now ≡ kind_text kind }
-{
-    match kind {
-        LabelKind::Range => "range",
-        LabelKind::Header => "header",
-        LabelKind::Exit => "exit",
-        LabelKind::Invariant => "invariant",
-        LabelKind::Assumed => "assumed",
-        LabelKind::Test => "test",
-        LabelKind::Denied => "denied",
-        LabelKind::Guard => "guard",
-        LabelKind::Set => "set",
-        LabelKind::Need => "use",
-        LabelKind::Entry => "entry",
-        LabelKind::Keep => "keep",
-        LabelKind::Barrier => "barrier",
-    }
-}
 
 fn write_number(out: &mut String, number: i64) -> Result<(), AllocError>
     ensures { OnOk result (string_bytes out.new ≡ string_bytes out.old ++ signed_decimal number) }
