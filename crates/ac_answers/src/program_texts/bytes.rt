@@ -1,7 +1,5 @@
 //! Bytes that begin no character or no token, and a million of one byte.
-use super::{LITERAL_LIMIT, NAME_LIMIT, NESTING_LIMIT, Outcome, comes_to, outcome_of, repeated};
-use std::alloc::{AllocError, Global};
-use std::process::Abort;
+use super::{LITERAL_LIMIT, NAME_LIMIT, NESTING_LIMIT, Outcome, comes_to, outcome_of};
 use std::test::Fail;
 
 /// Bytes that are no UTF-8 at each kind of place: at the ends, between tokens, inside a word, a name, a sign, a literal and
@@ -69,17 +67,6 @@ fn a_character_that_begins_no_token_is_told(rt: HostRuntime) {
     }
 }
 
-fn a_million_comes_to<R: Abort>(
-    rt: &R,
-    alloc: Global,
-    before: &str,
-    byte: &str,
-    expected: Outcome,
-) -> Result<(), AllocError> {
-    let thousand = repeated(alloc, ("", byte, 1000, ""))?;
-    comes_to(rt, alloc, (before, thousand.as_str(), 1000, ""), expected)
-}
-
 #[test]
 fn a_million_of_one_byte_has_an_answer(rt: HostRuntime) -> Result<(), Fail> {
     let end = Outcome::Unexpected(1_000_000, 1_000_000);
@@ -92,7 +79,8 @@ fn a_million_of_one_byte_has_an_answer(rt: HostRuntime) -> Result<(), Fail> {
         ("", "0", Outcome::Token(0)),
         ("", "a", NAME_LIMIT),
     ] {
-        a_million_comes_to(&rt, rt.alloc(), before, byte, expected)?;
+        let parts = (before, byte, 1_000_000, "");
+        comes_to(&rt, rt.alloc(), parts, expected)?;
     }
     Ok(())
 }
