@@ -1,0 +1,5 @@
+//! Tests of the solver of difference constraints.
+#![tactic(auto)]
+
+#[cfg(test)]
+mod answers;
