@@ -17,7 +17,7 @@ use Rattle.ac_tree.specs.declared.program.StmtKind.{the_lemmas as stmt_lemmas, R
 use Rattle.ac_tree.specs.declared.program.StmtKind.TheVariants as stmt
 use Rattle.ac_tree.specs.declared.static_rules.StaticFault.{StaticFault}
 use Rattle.ac_tree.specs.Opened.{hidden, expr_shape, expr_child, cond_shape, cond_child}
-use Rattle.ac_tree.specs.StaticRules.{Word, Loop, broken, kind_in, set_tests, for_tests, use_tests, index_count, expr_faults, index_faults, cond_faults, reads, reads_index, stmt_faults, block_faults, list_faults, first_fault}
+use Rattle.ac_tree.specs.StaticRules.{NameBytes, Loop, broken, kind_in, set_tests, for_tests, use_tests, index_count, expr_faults, index_faults, cond_faults, reads, reads_index, stmt_faults, block_faults, list_faults, first_fault}
 
 -- the first of two
 abbrev pub or_else : {A : Type 0} → Option A → Option A → Option A
@@ -42,11 +42,11 @@ pub expr_faults-Num : (ds : List Item) (at : NodeId) (n : ℕ) → expr_faults d
 unfolding hidden expr_shape expr_child
 expr_faults-Num ds at n = refl
 
-pub expr_faults-Get : (ds : List Item) (at : NodeId) (x : Word) → expr_faults ds at (expr.Get x) ≡ broken at (use_tests (kind_in ds x) 0)
+pub expr_faults-Get : (ds : List Item) (at : NodeId) (x : NameBytes) → expr_faults ds at (expr.Get x) ≡ broken at (use_tests (kind_in ds x) 0)
 unfolding hidden expr_shape expr_child
 expr_faults-Get ds at x = refl
 
-pub expr_faults-Read : (ds : List Item) (at : NodeId) (x : Word) (i : Index) →
+pub expr_faults-Read : (ds : List Item) (at : NodeId) (x : NameBytes) (i : Index) →
     first_fault (expr_faults ds at (expr.Read x i)) ≡ or_else (first_fault (broken at (use_tests (kind_in ds x) (index_count i)))) (first_fault (index_faults ds i))
 unfolding hidden expr_shape expr_child
 expr_faults-Read ds at x i = first-append (broken at (use_tests (kind_in ds x) (index_count i))) (index_faults ds i)
@@ -109,15 +109,15 @@ pub block_faults-items : (ds : List Item) (loops : List Loop) (n : Count) (row :
 block_faults-items ds loops _ end_of-Stmt = refl
 block_faults-items ds loops _ (more_of-Stmt {n = n} at s rest) = ap (λ fs. stmt_faults ds loops at.id s ++ fs) (block_faults-items ds loops n rest)
 
-stmt-While : (ds : List Item) (loops : List Loop) (at : NodeId) (test : Cond) (body : List Stmt) →
+pub stmt-While : (ds : List Item) (loops : List Loop) (at : NodeId) (test : Cond) (body : List Stmt) →
     stmt_faults ds loops at (stmt.While test body) ≡ cond_faults ds test.kind ++ list_faults ds loops body
 stmt-While ds loops at test body = first_of (search (rules, stmt_lemmas, block_faults-items), grind (arith, stmt_lemmas, block_faults-items))
 
-stmt-If : (ds : List Item) (loops : List Loop) (at : NodeId) (test : Cond) (xs ys : List Stmt) →
+pub stmt-If : (ds : List Item) (loops : List Loop) (at : NodeId) (test : Cond) (xs ys : List Stmt) →
     stmt_faults ds loops at (stmt.If test xs ys) ≡ cond_faults ds test.kind ++ (list_faults ds loops xs ++ list_faults ds loops ys)
 stmt-If ds loops at test xs ys = first_of (search (rules, stmt_lemmas, block_faults-items), grind (arith, stmt_lemmas, block_faults-items))
 
-stmt-For : (ds : List Item) (loops : List Loop) (at : NodeId) (x : Word) (a b : Expr) (body : List Stmt) →
+pub stmt-For : (ds : List Item) (loops : List Loop) (at : NodeId) (x : NameBytes) (a b : Expr) (body : List Stmt) →
     stmt_faults ds loops at (stmt.For x a b body) ≡
     broken at (for_tests loops x (kind_in ds x) a.kind b.kind) ++ (expr_faults ds a.node.id a.kind ++ (expr_faults ds b.node.id b.kind
     ++ list_faults ds (record { variable = x; low = a.kind; high = b.kind } ∷ loops) body))
@@ -134,7 +134,7 @@ stmt_faults-If ds loops at test xs ys =
     ∙ (first-append (cond_faults ds test.kind) (list_faults ds loops xs ++ list_faults ds loops ys)
     ∙ ap (or_else (first_fault (cond_faults ds test.kind))) (first-append (list_faults ds loops xs) (list_faults ds loops ys)))
 
-pub stmt_faults-For : (ds : List Item) (loops : List Loop) (at : NodeId) (x : Word) (a b : Expr) (body : List Stmt) →
+pub stmt_faults-For : (ds : List Item) (loops : List Loop) (at : NodeId) (x : NameBytes) (a b : Expr) (body : List Stmt) →
     first_fault (stmt_faults ds loops at (stmt.For x a b body)) ≡
     or_else (first_fault (broken at (for_tests loops x (kind_in ds x) a.kind b.kind))) (or_else (first_fault (expr_faults ds a.node.id a.kind)) (or_else (first_fault (expr_faults ds b.node.id b.kind))
     (first_fault (list_faults ds (record { variable = x; low = a.kind; high = b.kind } ∷ loops) body))))
@@ -147,54 +147,60 @@ stmt_faults-For ds loops at x a b body =
     ∙ (first-append own (low ++ (high ++ inner))
     ∙ ap (or_else (first_fault own)) (first-append low (high ++ inner) ∙ ap (or_else (first_fault low)) (first-append high inner)))
 
-pub stmt_faults-Set : (ds : List Item) (loops : List Loop) (at : NodeId) (x : Word) (a : Expr) →
+pub stmt_faults-Set : (ds : List Item) (loops : List Loop) (at : NodeId) (x : NameBytes) (a : Expr) →
     first_fault (stmt_faults ds loops at (stmt.Set x a)) ≡ or_else (first_fault (broken at (set_tests loops x (kind_in ds x) 0))) (first_fault (expr_faults ds a.node.id a.kind))
 stmt_faults-Set ds loops at x a = first-append (broken at (set_tests loops x (kind_in ds x) 0)) (expr_faults ds a.node.id a.kind)
 
-pub stmt_faults-Put : (ds : List Item) (loops : List Loop) (at : NodeId) (x : Word) (i : Index) (a : Expr) →
+pub stmt_faults-Put : (ds : List Item) (loops : List Loop) (at : NodeId) (x : NameBytes) (i : Index) (a : Expr) →
     first_fault (stmt_faults ds loops at (stmt.Put x i a)) ≡
     or_else (first_fault (broken at (set_tests loops x (kind_in ds x) (index_count i)))) (or_else (first_fault (index_faults ds i)) (first_fault (expr_faults ds a.node.id a.kind)))
 stmt_faults-Put ds loops at x i a =
     first-append (broken at (set_tests loops x (kind_in ds x) (index_count i))) (index_faults ds i ++ expr_faults ds a.node.id a.kind)
     ∙ ap (or_else (first_fault (broken at (set_tests loops x (kind_in ds x) (index_count i))))) (first-append (index_faults ds i) (expr_faults ds a.node.id a.kind))
 
-pub ruleset first_rules = (expr_lemmas, cond_lemmas, stmt_lemmas, expr_faults-Num, expr_faults-Get, expr_faults-Read, expr_faults-Neg, expr_faults-Add, expr_faults-Sub, expr_faults-Mul, index_faults-One, index_faults-Two, cond_faults-True, cond_faults-False, cond_faults-Rel, cond_faults-Not, cond_faults-And, cond_faults-Or, stmt_faults-Set, stmt_faults-Put, stmt_faults-If, stmt_faults-For, stmt_faults-While)
+pub ruleset expr_fault_rules = (expr_lemmas, expr_faults-Num, expr_faults-Get, expr_faults-Read, expr_faults-Neg, expr_faults-Add, expr_faults-Sub, expr_faults-Mul)
+
+pub ruleset index_fault_rules = (expr_lemmas, index_faults-One, index_faults-Two)
+
+pub ruleset cond_fault_rules = (cond_lemmas, cond_faults-True, cond_faults-False, cond_faults-Rel, cond_faults-Not, cond_faults-And, cond_faults-Or)
+
+pub ruleset stmt_fault_rules = (stmt_lemmas, stmt_faults-Set, stmt_faults-Put, stmt_faults-If, stmt_faults-For, stmt_faults-While)
 
 -- what an expression reads, as its parts do
 
-pub reads-Num : (x : Word) (n : ℕ) → reads x (expr.Num n) ≡ false
+pub reads-Num : (x : NameBytes) (n : ℕ) → reads x (expr.Num n) ≡ false
 unfolding hidden expr_shape expr_child
 reads-Num x n = refl
 
-pub reads-Get : (x y : Word) → reads x (expr.Get y) ≡ bytes_eq y x
+pub reads-Get : (x y : NameBytes) → reads x (expr.Get y) ≡ bytes_eq y x
 unfolding hidden expr_shape expr_child
 reads-Get x y = refl
 
-pub reads-Read : (x y : Word) (i : Index) → reads x (expr.Read y i) ≡ (bytes_eq y x || reads_index x i)
+pub reads-Read : (x y : NameBytes) (i : Index) → reads x (expr.Read y i) ≡ (bytes_eq y x || reads_index x i)
 unfolding hidden expr_shape expr_child
 reads-Read x y i = refl
 
-pub reads-Neg : (x : Word) (a : Expr) → reads x (expr.Neg a) ≡ reads x a.kind
+pub reads-Neg : (x : NameBytes) (a : Expr) → reads x (expr.Neg a) ≡ reads x a.kind
 unfolding hidden expr_shape expr_child
 reads-Neg x a = refl
 
-pub reads-Add : (x : Word) (a b : Expr) → reads x (expr.Add a b) ≡ (reads x a.kind || reads x b.kind)
+pub reads-Add : (x : NameBytes) (a b : Expr) → reads x (expr.Add a b) ≡ (reads x a.kind || reads x b.kind)
 unfolding hidden expr_shape expr_child
 reads-Add x a b = refl
 
-pub reads-Sub : (x : Word) (a b : Expr) → reads x (expr.Sub a b) ≡ (reads x a.kind || reads x b.kind)
+pub reads-Sub : (x : NameBytes) (a b : Expr) → reads x (expr.Sub a b) ≡ (reads x a.kind || reads x b.kind)
 unfolding hidden expr_shape expr_child
 reads-Sub x a b = refl
 
-pub reads-Mul : (x : Word) (a b : Expr) → reads x (expr.Mul a b) ≡ (reads x a.kind || reads x b.kind)
+pub reads-Mul : (x : NameBytes) (a b : Expr) → reads x (expr.Mul a b) ≡ (reads x a.kind || reads x b.kind)
 unfolding hidden expr_shape expr_child
 reads-Mul x a b = refl
 
-pub reads_index-One : (x : Word) (a : Expr) → reads_index x (index.One a) ≡ reads x a.kind
+pub reads_index-One : (x : NameBytes) (a : Expr) → reads_index x (index.One a) ≡ reads x a.kind
 unfolding hidden expr_shape expr_child
 reads_index-One x a = refl
 
-pub reads_index-Two : (x : Word) (a b : Expr) → reads_index x (index.Two a b) ≡ (reads x a.kind || reads x b.kind)
+pub reads_index-Two : (x : NameBytes) (a b : Expr) → reads_index x (index.Two a b) ≡ (reads x a.kind || reads x b.kind)
 unfolding hidden expr_shape expr_child
 reads_index-Two x a b = refl
 
@@ -206,7 +212,11 @@ pub index_count-Two : (a b : Expr) → index_count (index.Two a b) ≡ 2
 unfolding hidden expr_shape expr_child
 index_count-Two a b = refl
 
-pub ruleset read_rules = (expr_lemmas, reads-Num, reads-Get, reads-Read, reads-Neg, reads-Add, reads-Sub, reads-Mul, reads_index-One, reads_index-Two, index_count-One, index_count-Two)
+pub ruleset read_rules = (expr_lemmas, reads-Num, reads-Get, reads-Read, reads-Neg, reads-Add, reads-Sub, reads-Mul)
+
+pub ruleset index_read_rules = (expr_lemmas, reads_index-One, reads_index-Two)
+
+pub ruleset index_count_rules = (index_count-One, index_count-Two)
 
 -- the statements from a place on: the one there, or else those behind it
 pub list_faults-drop : (ds : List Item) (loops : List Loop) (block : List Stmt) (i : ℕ) (s : Stmt) → i < length block → s ≡ get_or block i s →

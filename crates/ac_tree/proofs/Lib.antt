@@ -1,4 +1,6 @@
+-- The lemmas behind the contracts.
 pub mod FirstFaults
 mod SpelledRows
-pub mod Added
 pub mod AddedNodes
+pub mod NodeLaws
+pub mod StaticLaws

@@ -1,8 +1,8 @@
 -- What the code keeps of faults: the first, and the loops around a statement. No promise rests on this file.
 use Rattle.std.specs.Prelude.{Option, Some, None, Result, Ok, Err, List, [], ◌∷◌}
 use Rattle.ac_tree.specs.declared.static_rules.StaticFault.{StaticFault}
-use Rattle.ac_tree.specs.declared.static_rules.Loops.{Loops}
-use Rattle.ac_tree.specs.declared.static_rules.Loops.TheVariants.{Outermost, Inside'}
+use Rattle.ac_tree.specs.declared.loops.Loops.{Loops}
+use Rattle.ac_tree.specs.declared.loops.Loops.TheVariants.{Outermost, Inside'}
 use Rattle.ac_tree.specs.StaticRules.{Loop}
 
 abbrev pub fault_of : {A : Type 0} → Result A StaticFault → Option StaticFault

@@ -32,18 +32,15 @@ use Rattle.ac_tree.specs.declared.token.Mark.TheVariants as mark
 use Rattle.ac_tree.specs.declared.token.Sign.{Sign}
 use Rattle.ac_tree.specs.declared.token.Sign.TheVariants as sign
 use Rattle.ac_tree.specs.declared.token.Token.{Token}
+pub use Rattle.ac_tree.specs.Names.{NameBytes}
 
 abbrev pub Tokens : Type 0
 Tokens = List Token
 
--- the bytes of a name
-abbrev pub Word : Type 0
-Word = List ℕ
-
 abbrev pub token : Mark → Span → Token
 token m s = record { mark = m; span = s }
 
-abbrev pub name : Word → Span → Token
+abbrev pub name : NameBytes → Span → Token
 name x s = token (mark.Name x) s
 
 abbrev pub literal : ℕ → Span → Token
@@ -71,7 +68,7 @@ condition s k = record { node = node s; kind = k }
 abbrev pub statement : Span → StmtKind → Stmt
 statement s k = record { node = node s; kind = k }
 
-abbrev pub declaration : Span → Word → ItemKind → Item
+abbrev pub declaration : Span → NameBytes → ItemKind → Item
 declaration s x k = record { node = node s; name = x; kind = k }
 
 pub data ExprLevel : Type 0 where
@@ -95,8 +92,8 @@ mutual
         SpellsExpr Factor (join o s) (expression (join o s) (expr.Neg a)) (sign_at sign.Minus o ∷ ts)
     -- atom = literal | name [ index ] | "(" expr ")"
     number : (n : ℕ) (s : Span) → SpellsExpr Atom s (expression s (expr.Num n)) (literal n s ∷ [])
-    scalar : (x : Word) (s : Span) → SpellsExpr Atom s (expression s (expr.Get x)) (name x s ∷ [])
-    read : {t : Span} {i : Index} {ts : Tokens} (x : Word) (s : Span) → SpellsIndex t i ts →
+    scalar : (x : NameBytes) (s : Span) → SpellsExpr Atom s (expression s (expr.Get x)) (name x s ∷ [])
+    read : {t : Span} {i : Index} {ts : Tokens} (x : NameBytes) (s : Span) → SpellsIndex t i ts →
         SpellsExpr Atom (join s t) (expression (join s t) (expr.Read x i)) (name x s ∷ ts)
     parentheses : {s : Span} {a : Expr} {ts : Tokens} (o c : Span) → SpellsExpr Sum s a ts →
         SpellsExpr Atom (join o c) a (sign_at sign.OpenParen o ∷ (ts ++ sign_at sign.CloseParen c ∷ []))
@@ -144,9 +141,9 @@ pub data SpellsCond : CondLevel → Span → Cond → Tokens → Type 0 where
 mutual
   pub data SpellsStmt : Stmt → Tokens → Type 0 where
     -- stmt = name [ index ] ":=" expr ";"
-    set : {v : Span} {a : Expr} {ts : Tokens} (x : Word) (s o e : Span) → SpellsExpr Sum v a ts →
+    set : {v : Span} {a : Expr} {ts : Tokens} (x : NameBytes) (s o e : Span) → SpellsExpr Sum v a ts →
         SpellsStmt (statement (join s e) (stmt.Set x a)) (name x s ∷ sign_at sign.Assign o ∷ (ts ++ sign_at sign.Semicolon e ∷ []))
-    put : {t v : Span} {i : Index} {a : Expr} {bs ts : Tokens} (x : Word) (s o e : Span) → SpellsIndex t i bs → SpellsExpr Sum v a ts →
+    put : {t v : Span} {i : Index} {a : Expr} {bs ts : Tokens} (x : NameBytes) (s o e : Span) → SpellsIndex t i bs → SpellsExpr Sum v a ts →
         SpellsStmt (statement (join s e) (stmt.Put x i a)) (name x s ∷ (bs ++ sign_at sign.Assign o ∷ (ts ++ sign_at sign.Semicolon e ∷ [])))
     -- | "if" cond "then" { stmt } [ "else" { stmt } ] "end"
     if_then : {v : Span} {c : Cond} {xs : List Stmt} {ts us : Tokens} (s o e : Span) → SpellsCond Disjunction v c ts → SpellsBlock xs us →
@@ -155,14 +152,14 @@ mutual
         SpellsStmt (statement (join s e) (stmt.If c xs ys))
         (keyword_at keyword.If s ∷ (ts ++ keyword_at keyword.Then o ∷ (us ++ keyword_at keyword.Else m ∷ (vs ++ keyword_at keyword.End e ∷ []))))
     -- | "for" name ":=" expr "to" expr "do" { stmt } "end"
-    for_loop : {v w : Span} {a b : Expr} {xs : List Stmt} {ts us vs : Tokens} (x : Word) (s n o m d e : Span) → SpellsExpr Sum v a ts → SpellsExpr Sum w b us → SpellsBlock xs vs →
+    for_loop : {v w : Span} {a b : Expr} {xs : List Stmt} {ts us vs : Tokens} (x : NameBytes) (s n o m d e : Span) → SpellsExpr Sum v a ts → SpellsExpr Sum w b us → SpellsBlock xs vs →
         SpellsStmt (statement (join s e) (stmt.For x a b xs))
         (keyword_at keyword.For s ∷ name x n ∷ sign_at sign.Assign o ∷ (ts ++ keyword_at keyword.To m ∷ (us ++ keyword_at keyword.Do d ∷ (vs ++ keyword_at keyword.End e ∷ []))))
     -- | "while" cond "do" { stmt } "end"
     while_loop : {v : Span} {c : Cond} {xs : List Stmt} {ts us : Tokens} (s o e : Span) → SpellsCond Disjunction v c ts → SpellsBlock xs us →
         SpellsStmt (statement (join s e) (stmt.While c xs)) (keyword_at keyword.While s ∷ (ts ++ keyword_at keyword.Do o ∷ (us ++ keyword_at keyword.End e ∷ [])))
     -- | "use" name "as" name ";" | "skip" ";"
-    hand : (x y : Word) (s n o r e : Span) →
+    hand : (x y : NameBytes) (s n o r e : Span) →
         SpellsStmt (statement (join s e) (stmt.Hand x y)) (keyword_at keyword.Use s ∷ name x n ∷ keyword_at keyword.As o ∷ name y r ∷ sign_at sign.Semicolon e ∷ [])
     skip : (s e : Span) → SpellsStmt (statement (join s e) stmt.Skip) (keyword_at keyword.Skip s ∷ sign_at sign.Semicolon e ∷ [])
 
@@ -179,7 +176,7 @@ pub data SpellsInt : ℤ → Tokens → Type 0 where
 -- extent = literal | name
 pub data SpellsExtent : Extent → Tokens → Type 0 where
   fixed : (n : ℕ) (s : Span) → SpellsExtent (extent.Lit n) (literal n s ∷ [])
-  named : (x : Word) (s : Span) → SpellsExtent (extent.Named x) (name x s ∷ [])
+  named : (x : NameBytes) (s : Span) → SpellsExtent (extent.Named x) (name x s ∷ [])
 
 -- extents = "[" extent [ "," extent ] "]"
 pub data SpellsExtents : Extents → Tokens → Type 0 where
@@ -190,19 +187,19 @@ pub data SpellsExtents : Extents → Tokens → Type 0 where
 
 pub data SpellsItem : Item → Tokens → Type 0 where
   -- decl = "const" name "=" int ";"
-  constant : {k : ℤ} {ts : Tokens} (x : Word) (s n o e : Span) → SpellsInt k ts →
+  constant : {k : ℤ} {ts : Tokens} (x : NameBytes) (s n o e : Span) → SpellsInt k ts →
       SpellsItem (declaration (join s e) x (item.Const k)) (keyword_at keyword.Const s ∷ name x n ∷ sign_at sign.Equal o ∷ (ts ++ sign_at sign.Semicolon e ∷ []))
   -- | "input" name [ extents ] ":" int ".." int ";"
-  input_scalar : {low high : ℤ} {ts us : Tokens} (x : Word) (s n o d e : Span) → SpellsInt low ts → SpellsInt high us →
+  input_scalar : {low high : ℤ} {ts us : Tokens} (x : NameBytes) (s n o d e : Span) → SpellsInt low ts → SpellsInt high us →
       SpellsItem (declaration (join s e) x (item.InputScalar low high))
       (keyword_at keyword.Input s ∷ name x n ∷ sign_at sign.Colon o ∷ (ts ++ sign_at sign.DotDot d ∷ (us ++ sign_at sign.Semicolon e ∷ [])))
-  input_array : {a : Extents} {low high : ℤ} {bs ts us : Tokens} (x : Word) (s n o d e : Span) → SpellsExtents a bs → SpellsInt low ts → SpellsInt high us →
+  input_array : {a : Extents} {low high : ℤ} {bs ts us : Tokens} (x : NameBytes) (s n o d e : Span) → SpellsExtents a bs → SpellsInt low ts → SpellsInt high us →
       SpellsItem (declaration (join s e) x (item.InputArray a low high))
       (keyword_at keyword.Input s ∷ name x n ∷ (bs ++ sign_at sign.Colon o ∷ (ts ++ sign_at sign.DotDot d ∷ (us ++ sign_at sign.Semicolon e ∷ []))))
   -- | "var" name [ extents ] ";"
-  var_scalar : (x : Word) (s n e : Span) →
+  var_scalar : (x : NameBytes) (s n e : Span) →
       SpellsItem (declaration (join s e) x item.VarScalar) (keyword_at keyword.Var s ∷ name x n ∷ sign_at sign.Semicolon e ∷ [])
-  var_array : {a : Extents} {bs : Tokens} (x : Word) (s n e : Span) → SpellsExtents a bs →
+  var_array : {a : Extents} {bs : Tokens} (x : NameBytes) (s n e : Span) → SpellsExtents a bs →
       SpellsItem (declaration (join s e) x (item.VarArray a)) (keyword_at keyword.Var s ∷ name x n ∷ (bs ++ sign_at sign.Semicolon e ∷ []))
 
 -- { decl }

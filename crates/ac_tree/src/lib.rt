@@ -5,16 +5,27 @@
 //! of a text: how bytes are cut into tokens, which tokens spell which tree, how nodes are numbered, and the static rules.
 #![tactic(auto)]
 
+mod declarations;
+mod laws;
 mod limit;
+mod loops;
 mod name;
+mod name_uses;
 mod node;
 mod node_positions;
 mod path;
 mod policy;
 mod program;
+pub mod rule;
+mod statement_rules;
 mod static_rules;
 mod token;
 
+pub use declarations::kind_of;
+pub use laws::{
+    accepted_declarations_are_good, accepted_loops_are_kept, accepted_names_are_declared,
+    accepted_writes_are_to_variables, nodes_are_numbered_in_preorder,
+};
 pub use limit::LimitKind;
 pub use name::Name;
 pub use node::{Node, NodeId, Span};

@@ -1,15 +1,13 @@
-use Rattle.ac_tree.proofs.AddedNodes.{items-step, items-end}
+-- The loop over the declarations.
+use Rattle.ac_tree.proofs.AddedNodes.{items-begin, items-step, items-end}
 use Rattle.ac_tree.proofs.node_positions.add_items.Goals as goal
 
-pub loop-item-init : goal.loop-item-init
-loop-item-init c = λ after f. f
-
-pub loop-item-preserved : goal.loop-item-preserved
-loop-item-preserved c =
-    λ after f. c.loop-item.invariant after
-    (items-step c.args.items.now c.loop-item._item-index c._item-item.result c.loop-item.spot c.in_ok-spot.spot c.loop-item.found.items c.add_leaf.new.found.items after
-    c.loop-item-test.true c.in_ok-add_leaf.ensures c.in_ok-spot.ensures f)
+pub loop-i-init : goal.loop-i-init
+loop-i-init c = items-begin _ _ _
 
 pub returns : goal.returns
-returns c =
-    c.loop-item.invariant c.loop-item.found.items (items-end c.args.items.now c.loop-item._item-index c.loop-item.spot c.loop-item.found.items c.loop-item-test.false)
+returns c = items-end _ _ _ _ _ c.loop-i-test.false c.loop-i.invariant
+
+pub loop-i-preserved : goal.loop-i-preserved
+loop-i-preserved c =
+    items-step c.args.items.now c.loop-i.i c.args.parent c.number-place.result c.in_ok-open.field-0 _ c.loop-i.found.items _ c.loop-i-test.true c.number-place.ensures c.loop-i.invariant c.in_ok-open.ensures

@@ -1,6 +1,7 @@
+-- What the loop of this function keeps.
 use Rattle.std.proofs.Common.{◌≡◌, [], take, drop}
 use Rattle.ac_tree.specs.StaticRules.{first_fault, items_faults}
-use Rattle.ac_tree.proofs.static_rules.check_items.Given as goal
+use Rattle.ac_tree.proofs.declarations.check_items.Given as goal
 
 abbrev pub invariant-loop-i : goal.invariant-loop-i
 invariant-loop-i l = first_fault (items_faults (take l.i l.items) (drop l.i l.items)) ≡ first_fault (items_faults [] l.items)

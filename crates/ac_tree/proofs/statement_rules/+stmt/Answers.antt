@@ -1,9 +1,10 @@
+-- The productions of statements whose parts are blocks, and the loop over a block.
 use Rattle.std.proofs.Common.{arith, ap, sym, ◌∙◌, ◌+◌, drop, Some}
 use Rattle.std.proofs.lemmas.Result.{err_from_is_err_and}
 use Rattle.ac_tree.specs.FirstFault.{fault_of, loops_of}
 use Rattle.ac_tree.specs.StaticRules.{first_fault, list_faults}
 use Rattle.ac_tree.proofs.FirstFaults.{or_else, list_faults-drop, stmt_faults-If, stmt_faults-While}
-use Rattle.ac_tree.proofs.static_rules.+stmt.Goals as goal
+use Rattle.ac_tree.proofs.statement_rules.+stmt.Goals as goal
 
 pub check_stmt-returns-in_err-check_block-in-If : goal.check_stmt-returns-in_err-check_block-in-If
 check_stmt-returns-in_err-check_block-in-If t c = rw (c.in-If.is, stmt_faults-If) (grind arith)
