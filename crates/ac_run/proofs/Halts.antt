@@ -12,13 +12,13 @@ use Rattle.ac_tree.specs.declared.program.ExprKind.TheVariants.{Num, Get, Read}
 use Rattle.ac_tree.specs.declared.program.Index.{Index}
 use Rattle.ac_tree.specs.declared.program.CondKind.{CondKind}
 use Rattle.ac_tree.specs.declared.program.CondKind.TheVariants.{True, False, Rel}
-use Rattle.ac_tree.specs.Patterns.{Negative, Plus, Minus, Times, At, Pair, Negation, Conjunction, Disjunction}
+use Rattle.ac_tree.specs.Patterns.{Negative, Plus, Minus, Times, OneIndex, TwoIndexes, Negation, Conjunction, Disjunction}
 use Rattle.ac_run.specs.declared.start.Start.{Start}
 use Rattle.ac_run.specs.declared.event.Cell.{Cell}
 use Rattle.ac_run.specs.declared.event.Event.{Event}
 use Rattle.ac_run.specs.declared.event.Event.TheVariants as event
 use Rattle.ac_run.specs.Opened.{hidden, expr_shape, expr_child, cond_shape, cond_child}
-use Rattle.ac_run.specs.Declarations.{Word, constant_of}
+use Rattle.ac_run.specs.Declarations.{NameBytes, constant_of}
 use Rattle.ac_run.specs.Memory.{Memory, scalar, is_inside, number_at, write}
 use Rattle.ac_run.specs.Evaluation.{Reading, pure, and_then, both, read, constant_or_read, value_of, indexes_of, truth_of}
 use Rattle.ac_run.specs.Run.{Task, Do, Compare, Advance, Config, go_to, decided, written, step_statement, step_task, step_first, step, run}
@@ -72,7 +72,7 @@ module _ (p : Program) (start : Start) where
         go true e = (e, tt)
         go false e = ([], c, refl, tt, e)
 
-    constant-tells : (o : Option ℤ) (x : Word) → Tells (constant_or_read p start m o x).0 (constant_or_read p start m o x).1
+    constant-tells : (o : Option ℤ) (x : NameBytes) → Tells (constant_or_read p start m o x).0 (constant_or_read p start m o x).1
     constant-tells (Some value) x = tt
     constant-tells None x = read-tells (scalar x)
 
@@ -89,8 +89,8 @@ module _ (p : Program) (start : Start) where
       value-tells (Times n a k b) = tells-then (value_of p start m a).0 (value_of p start m a).1 _ (value-tells a) (λ x. tells-then (value_of p start m b).0 (value_of p start m b).1 _ (value-tells b) (λ y. tt))
 
       indexes-tells : (at : Index) → Tells (indexes_of p start m at).0 (indexes_of p start m at).1
-      indexes-tells (At n a) = tells-then (value_of p start m a).0 (value_of p start m a).1 _ (value-tells a) (λ x. tt)
-      indexes-tells (Pair n a k b) = tells-then (value_of p start m a).0 (value_of p start m a).1 _ (value-tells a) (λ x. tells-then (value_of p start m b).0 (value_of p start m b).1 _ (value-tells b) (λ y. tt))
+      indexes-tells (OneIndex n a) = tells-then (value_of p start m a).0 (value_of p start m a).1 _ (value-tells a) (λ x. tt)
+      indexes-tells (TwoIndexes n a k b) = tells-then (value_of p start m a).0 (value_of p start m a).1 _ (value-tells a) (λ x. tells-then (value_of p start m b).0 (value_of p start m b).1 _ (value-tells b) (λ y. tt))
 
     right-tells : (b : Bool) (r s : Reading Bool) → Tells r.0 r.1 → Tells s.0 s.1 → Tells (if b then r else s).0 (if b then r else s).1
     right-tells true r s h k = h
@@ -191,23 +191,23 @@ module _ (p : Program) (start : Start) where
   run-stands zero = inl (refl, tt)
   run-stands (suc n) = step-stands (run p start n) (run-stands n)
 
-  not-bad : (roles : List Word) (before : List Event) (e : Event) → Inside e → ¬ Bad p start roles Bounds before e
+  not-bad : (roles : List NameBytes) (before : List Event) (e : Event) → Inside e → ¬ Bad p start roles Bounds before e
   not-bad roles before (event.Read c) h k = false≢true (sym k ∙ h)
   not-bad roles before (event.Write c n) h k = false≢true (sym k ∙ h)
   not-bad roles before (event.Hand x role numbers) h k = k
 
-  is-bad : (roles : List Word) (before : List Event) (e : Event) → Outside e → Bad p start roles Bounds before e
+  is-bad : (roles : List NameBytes) (before : List Event) (e : Event) → Outside e → Bad p start roles Bounds before e
   is-bad roles before (event.Read c) h = h
   is-bad roles before (event.Write c n) h = h
   is-bad roles before (event.Hand x role numbers) h = absurd h
 
-  bad-halts : (roles : List Word) (c : Config) → Stands c → Violates p start roles Bounds c.trace → c.has_halted ≡ true
+  bad-halts : (roles : List NameBytes) (c : Config) → Stands c → Violates p start roles Bounds c.trace → c.has_halted ≡ true
   bad-halts roles c (inl h) v = absurd (not-bad roles v.0 v.1 (all-middle Inside v.0 v.1 v.2 (subst (AllByRecursion Inside) v.3 h.1)) v.4)
   bad-halts roles c (inr h) v = h.0
 
-  halts-bad : (roles : List Word) (c : Config) → Stands c → c.has_halted ≡ true → Violates p start roles Bounds c.trace
+  halts-bad : (roles : List NameBytes) (c : Config) → Stands c → c.has_halted ≡ true → Violates p start roles Bounds c.trace
   halts-bad roles c (inl h) k = absurd (false≢true (sym h.0 ∙ k))
   halts-bad roles c (inr h) k = (h.1.0, h.1.1, [], h.1.2, is-bad roles h.1.0 h.1.1 h.1.4)
 
-  pub halted_where_bad : (roles : List Word) (n : ℕ) → ((run p start n).has_halted ≡ true) ↔ Violates p start roles Bounds (run p start n).trace
+  pub halted_where_bad : (roles : List NameBytes) (n : ℕ) → ((run p start n).has_halted ≡ true) ↔ Violates p start roles Bounds (run p start n).trace
   halted_where_bad roles n = (halts-bad roles (run p start n) (run-stands n), bad-halts roles (run p start n) (run-stands n))

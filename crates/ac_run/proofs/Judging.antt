@@ -13,7 +13,7 @@ use Rattle.ac_run.specs.declared.start.Start.{Start}
 use Rattle.ac_run.specs.declared.event.Cell.{Cell}
 use Rattle.ac_run.specs.declared.event.Event.{Event}
 use Rattle.ac_run.specs.declared.event.Event.TheVariants.{Read, Write, Hand}
-use Rattle.ac_run.specs.Declarations.{Word, Shape, Scalar, Vector, Matrix, is_input, shape}
+use Rattle.ac_run.specs.Declarations.{NameBytes, Shape, Scalar, Vector, Matrix, is_input, shape}
 use Rattle.ac_run.specs.Memory.{is_below, is_missing, is_within, is_inside}
 use Rattle.ac_run.specs.Violation.{Wrote, IsAsymmetric, Bad, Violates}
 
@@ -21,10 +21,10 @@ use Rattle.ac_run.specs.Violation.{Wrote, IsAsymmetric, Bad, Violates}
 abbrev same_cell : Cell → Cell → Bool
 same_cell c d = bytes_eq c.name d.name && int_eq c.i d.i && int_eq c.j d.j
 
-abbrev pub cell_at : Word → ℤ → ℤ → Cell
+abbrev pub cell_at : NameBytes → ℤ → ℤ → Cell
 cell_at x i j = record { name = x; i = i; j = j }
 
-cells_agree : (x y : Word) (i i' j j' : ℤ) → x ≡ y → i ≡ i' → j ≡ j' → cell_at x i j ≡ cell_at y i' j'
+cells_agree : (x y : NameBytes) (i i' j j' : ℤ) → x ≡ y → i ≡ i' → j ≡ j' → cell_at x i j ≡ cell_at y i' j'
 cells_agree x y i i' j j' e f g = rw (e, f, g) refl
 
 same_cell-true : (c d : Cell) → same_cell c d ≡ true → c ≡ d
@@ -133,12 +133,12 @@ symmetric-not (Matrix n m) ns h (inr k) =
 symmetric-not _ ns h k = false≢true h
 
 -- events that are not wrong
-module _ (p : Program) (start : Start) (roles : List Word) where
-  abbrev is_listed : List Word → Word → Bool
+module _ (p : Program) (start : Start) (roles : List NameBytes) where
+  abbrev is_listed : List NameBytes → NameBytes → Bool
   is_listed [] role = false
   is_listed (r ∷ rs) role = bytes_eq r role || is_listed rs role
 
-  listed : (rs : List Word) (role : Word) (at : ℕ) → at < length rs → slice_index_or rs at role ≡ role → is_listed rs role ≡ true
+  listed : (rs : List NameBytes) (role : NameBytes) (at : ℕ) → at < length rs → slice_index_or rs at role ≡ role → is_listed rs role ≡ true
   listed [] role at l h = absurd (omega (arith, l))
   listed (r ∷ rs) role zero l h = rw ((bytes_eq-Decides r role).1 h) refl
   listed (r ∷ rs) role (suc at) l h = rw (listed rs role at (omega (arith, l)) h) (or-later (bytes_eq r role))
@@ -159,9 +159,9 @@ module _ (p : Program) (start : Start) (roles : List Word) where
   fine-not Init before (Hand x role ns) h k = elim (or_cases (is_input p x) (every_cell (shape p start x) (λ i j. wrote before (cell_at x i j))) h) [
     | inl input ↦ false≢true (sym k.0 ∙ input)
     | inr all ↦ (let c = k.1.0 in
-        let inside = subst (λ (y : Word). is_within (shape p start y) c.i c.j ≡ true) k.1.1 k.1.2 in
+        let inside = subst (λ (y : NameBytes). is_within (shape p start y) c.i c.j ≡ true) k.1.1 k.1.2 in
         let written = every_cell-at (shape p start x) (λ i j. wrote before (cell_at x i j)) all c.i c.j inside in
-        k.1.3 (wrote-true before c (subst (λ (y : Word). wrote before (cell_at y c.i c.j) ≡ true) (sym k.1.1) written)))
+        k.1.3 (wrote-true before c (subst (λ (y : NameBytes). wrote before (cell_at y c.i c.j) ≡ true) (sym k.1.1) written)))
   ]
   fine-not Bounds before (Read c) h k = false≢true (sym k ∙ h)
   fine-not Bounds before (Write c n) h k = false≢true (sym k ∙ h)

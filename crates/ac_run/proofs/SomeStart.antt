@@ -14,10 +14,11 @@ use Rattle.ac_tree.specs.declared.program.ItemKind.TheVariants.{Const, InputScal
 use Rattle.ac_tree.specs.declared.program.Extents.TheVariants.{One, Two}
 use Rattle.ac_tree.specs.declared.program.Extent.{Extent}
 use Rattle.ac_tree.specs.declared.program.Extent.TheVariants.{Lit, Named}
-use Rattle.ac_tree.specs.StaticRules.{Accepted, redeclared_name, undeclared_name, empty_range, bad_extent, is_declared, broken, items_faults, item_faults, extents_of, is_empty_range, is_bad_size, is_bad_extent, is_undeclared_extent}
+use Rattle.ac_tree.specs.declared.rule.TheConstants.{REDECLARED_NAME as redeclared_name, UNDECLARED_NAME as undeclared_name, EMPTY_RANGE as empty_range, BAD_EXTENT as bad_extent}
+use Rattle.ac_tree.specs.StaticRules.{KeepsStaticRules, is_declared, broken, items_faults, item_faults, extents_of, is_empty_range, is_bad_size, is_bad_extent, is_undeclared_extent}
 use Rattle.ac_run.specs.declared.start.Start.{Start}
 use Rattle.ac_run.specs.declared.start.StartCell.{StartCell}
-use Rattle.ac_run.specs.Declarations.{Word, kind_in, kind_of, constant_in, numbers_in, named_extent, extent, shape_in}
+use Rattle.ac_run.specs.Declarations.{NameBytes, kind_in, kind_of, constant_in, numbers_in, named_extent, extent, shape_in}
 use Rattle.ac_run.specs.Start.{count, InRange, is_held, FitsItem, Fits}
 
 -- what the rules on declarations say
@@ -73,7 +74,7 @@ good-range (InputScalar lo hi) h = in-order lo hi h
 good-range (InputArray extents lo hi) h = in-order lo hi h
 good-range _ h = tt
 
-kind-more : (before more : List Item) (x : Word) (k : ItemKind) → kind_in before x ≡ Some k → kind_in (before ++ more) x ≡ Some k
+kind-more : (before more : List Item) (x : NameBytes) (k : ItemKind) → kind_in before x ≡ Some k → kind_in (before ++ more) x ≡ Some k
 kind-more [] more x k h = cc
 kind-more (d ∷ before) more x k h = go (bytes_eq d.name x) h (λ g. kind-more before more x k g)
   where
@@ -81,7 +82,7 @@ kind-more (d ∷ before) more x k h = go (bytes_eq d.name x) h (λ g. kind-more 
     go true h later = h
     go false h later = later h
 
-good-size : (before more : List Item) (x : Word) (o : Option ItemKind) → kind_in before x ≡ o → not (is_some o) ≡ false → is_bad_size o ≡ false → IsSize (kind_in (before ++ more) x)
+good-size : (before more : List Item) (x : NameBytes) (o : Option ItemKind) → kind_in before x ≡ o → not (is_some o) ≡ false → is_bad_size o ≡ false → IsSize (kind_in (before ++ more) x)
 good-size before more x (Some (Const value)) e h k = subst IsSize (sym (kind-more before more x (Const value) e)) tt
 good-size before more x (Some (InputScalar lo hi)) e h k = subst IsSize (sym (kind-more before more x (InputScalar lo hi) e)) tt
 good-size before more x None e h k = absurd (false≢true (sym h))
@@ -150,7 +151,7 @@ module _ (p : Program) where
   abbrev first_start : Start
   first_start = record { cells = entries p.items }
 
-  numbers-step : (d : Item) (ds : List Item) (x : Word) (k : ItemKind) (b h : Bool) → bytes_eq d.name x ≡ b → is_held d.kind ≡ h → (if b then Some d.kind else kind_in ds x) ≡ Some k → is_held k ≡ true →
+  numbers-step : (d : Item) (ds : List Item) (x : NameBytes) (k : ItemKind) (b h : Bool) → bytes_eq d.name x ≡ b → is_held d.kind ≡ h → (if b then Some d.kind else kind_in ds x) ≡ Some k → is_held k ≡ true →
       (kind_in ds x ≡ Some k → numbers_in (entries ds) x ≡ numbers_of k) →
       numbers_in (map entry (cond h (d ∷ filter (λ d. is_held d.kind) ds) (filter (λ d. is_held d.kind) ds))) x ≡ numbers_of k
   numbers-step d ds x k true true e f g i j = let same = some-same d.kind k g in rw e (ap (λ (z : ItemKind). numbers_of z) same)
@@ -158,11 +159,11 @@ module _ (p : Program) where
   numbers-step d ds x k false true e f g i j = rw e (j g)
   numbers-step d ds x k false false e f g i j = j g
 
-  numbers-held : (ds : List Item) (x : Word) (k : ItemKind) → kind_in ds x ≡ Some k → is_held k ≡ true → numbers_in (entries ds) x ≡ numbers_of k
+  numbers-held : (ds : List Item) (x : NameBytes) (k : ItemKind) → kind_in ds x ≡ Some k → is_held k ≡ true → numbers_in (entries ds) x ≡ numbers_of k
   numbers-held [] x k h i = cc
   numbers-held (d ∷ ds) x k h i = numbers-step d ds x k (bytes_eq d.name x) (is_held d.kind) refl refl h i (λ g. numbers-held ds x k g i)
 
-  size-same : (x : Word) (o : Option ItemKind) → kind_of p x ≡ o → IsSize o → named_extent p (constant_in o) (numbers_in (entries p.items) x) ≡ size_in o
+  size-same : (x : NameBytes) (o : Option ItemKind) → kind_of p x ≡ o → IsSize o → named_extent p (constant_in o) (numbers_in (entries p.items) x) ≡ size_in o
   size-same x (Some (Const value)) e h = refl
   size-same x (Some (InputScalar lo hi)) e h = rw (numbers-held p.items x (InputScalar lo hi) e refl) refl
   size-same x _ e h = absurd h
@@ -195,5 +196,5 @@ module _ (p : Program) where
       go true rest = (fits-item d h.0, rest)
       go false rest = rest
 
-pub some_start : (p : Program) → Accepted p → (start : Start) × Fits p start
+pub some_start : (p : Program) → KeepsStaticRules p → (start : Start) × Fits p start
 some_start p h = (first_start p, fits-items p p.items (good-items [] p.items (front-nil (items_faults [] p.items) _ h)))

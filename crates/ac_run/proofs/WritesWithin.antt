@@ -12,7 +12,7 @@ use Rattle.ac_tree.specs.declared.program.ItemKind.{ItemKind}
 use Rattle.ac_tree.specs.declared.program.ItemKind.TheVariants.{VarArray}
 use Rattle.ac_tree.specs.declared.program.Extents.TheVariants.{One}
 use Rattle.ac_tree.specs.declared.program.Extent.TheVariants.{Lit}
-use Rattle.ac_tree.specs.Patterns.{At}
+use Rattle.ac_tree.specs.Patterns.{OneIndex}
 use Rattle.ac_tree.specs.declared.policy.PolicyName.{PolicyName}
 use Rattle.ac_tree.specs.declared.policy.PolicyName.TheVariants.{Init, Bounds, Symm}
 use Rattle.ac_run.specs.declared.start.Start.{Start}
@@ -20,7 +20,7 @@ use Rattle.ac_run.specs.declared.event.Cell.{Cell}
 use Rattle.ac_run.specs.declared.event.Event.{Event}
 use Rattle.ac_run.specs.declared.event.Event.TheVariants.{Write}
 use Rattle.ac_run.specs.Opened.{hidden, expr_shape, expr_child}
-use Rattle.ac_run.specs.Declarations.{Word, kind_of, shape_in}
+use Rattle.ac_run.specs.Declarations.{NameBytes, kind_of, shape_in}
 use Rattle.ac_run.specs.Memory.{is_within, is_inside, write}
 use Rattle.ac_run.specs.Evaluation.{pure, both, value_of}
 use Rattle.ac_run.specs.Run.{Task, Do, Config, with_reading, written, step_statement, step_first, step, run}
@@ -73,7 +73,7 @@ module _ (p : Program) (start : Start) where
       go false = (h.0, all-snoc WritesInside c.trace (Write at n) h.1 inside)
 
   -- a literal that is written
-  literal-keeps : (x : Word) (i : ℕ) (e : ExprKind) (c : Config) → IsTrue (is_literal e && is_array_above i (kind_of p x)) → Keeps c →
+  literal-keeps : (x : NameBytes) (i : ℕ) (e : ExprKind) (c : Config) → IsTrue (is_literal e && is_array_above i (kind_of p x)) → Keeps c →
       Keeps (with_reading (both {A = ℤ × ℤ} (pure (pos i, pos 0)) (value_of p start c.memory e)) (λ a. written p start (record { name = x; i = a.0.0; j = a.0.1 }) a.1) c)
   unfolding hidden expr_shape expr_child
   literal-keeps x i (Num v) c h k =
@@ -83,7 +83,7 @@ module _ (p : Program) (start : Start) where
 
   statement-keeps : (st : Stmt) (kind : StmtKind) (c : Config) → IsTrue (is_write_within p kind) → Keeps c → Keeps (step_statement p start st kind c)
   unfolding hidden expr_shape expr_child
-  statement-keeps st (Put x (At n (Num i)) value) c h k = literal-keeps x i value.kind c h k
+  statement-keeps st (Put x (OneIndex n (Num i)) value) c h k = literal-keeps x i value.kind c h k
   statement-keeps st _ c h k = absurd (false≢true h)
 
   first-keeps : (tasks : List Task) (c : Config) → AllByRecursion IsStraight tasks → Keeps c → Keeps (step_first p start tasks c)
@@ -102,7 +102,7 @@ module _ (p : Program) (start : Start) where
   run-keeps h zero = (all-map IsStraight Do p.body (recursion_from_All (λ st. IsTrue (is_write_within p st.kind)) p.body h), tt)
   run-keeps h (suc n) = step-keeps (run p start n) (run-keeps h n)
 
-  never-bad : (roles : List Word) (policy : PolicyName) (before : List Event) (event : Event) → WritesInside event → ¬ Bad p start roles policy before event
+  never-bad : (roles : List NameBytes) (policy : PolicyName) (before : List Event) (event : Event) → WritesInside event → ¬ Bad p start roles policy before event
   never-bad roles Bounds before (Write c n) h k = false≢true (sym k ∙ h)
   never-bad roles Init before (Write c n) h k = k
   never-bad roles Symm before (Write c n) h k = k

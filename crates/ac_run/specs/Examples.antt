@@ -23,14 +23,14 @@ use Rattle.ac_run.specs.declared.start.StartCell.{StartCell}
 use Rattle.ac_run.specs.declared.event.Cell.{Cell}
 use Rattle.ac_run.specs.declared.event.Event.{Event}
 use Rattle.ac_run.specs.declared.event.Event.TheVariants as event
-use Rattle.ac_run.specs.Declarations.{Word}
+use Rattle.ac_run.specs.Declarations.{NameBytes}
 use Rattle.ac_tree.specs.declared.policy.PolicyName.{PolicyName}
 use Rattle.ac_run.specs.Memory.{scalar}
 use Rattle.ac_run.specs.Run.{run}
 use Rattle.ac_run.specs.Violation.{Violates}
 
 -- a policy is violated within so many steps
-abbrev pub ViolatesAfter : ℕ → Program → Start → List Word → PolicyName → Type 0
+abbrev pub ViolatesAfter : ℕ → Program → Start → List NameBytes → PolicyName → Type 0
 ViolatesAfter steps p start roles policy = Violates p start roles policy (run p start steps).trace
 
 -- Numbers of nodes and places in a text don't matter to a run.
@@ -46,7 +46,7 @@ cond_of k = record { node = here; kind = k }
 abbrev pub stmt_of : StmtKind → Stmt
 stmt_of k = record { node = here; kind = k }
 
-abbrev pub item_of : Word → ItemKind → Item
+abbrev pub item_of : NameBytes → ItemKind → Item
 item_of x k = record { node = here; name = x; kind = k }
 
 abbrev pub program : List Item → List Stmt → Program
@@ -57,27 +57,27 @@ abbrev pub number : ℕ → Expr
 number n = expr_of (expr.Num n)
 
 -- x
-abbrev pub get : Word → Expr
+abbrev pub get : NameBytes → Expr
 get x = expr_of (expr.Get x)
 
 -- a[i]
-abbrev pub element : Word → Expr → Expr
+abbrev pub element : NameBytes → Expr → Expr
 element a i = expr_of (expr.Read a (index.One i))
 
 -- x := e;
-abbrev pub set : Word → Expr → Stmt
+abbrev pub set : NameBytes → Expr → Stmt
 set x e = stmt_of (stmt.Set x e)
 
 -- a[i] := e;
-abbrev pub put : Word → Expr → Expr → Stmt
+abbrev pub put : NameBytes → Expr → Expr → Stmt
 put a i e = stmt_of (stmt.Put a (index.One i) e)
 
 -- a[i,j] := e;
-abbrev pub put_pair : Word → Expr → Expr → Expr → Stmt
+abbrev pub put_pair : NameBytes → Expr → Expr → Expr → Stmt
 put_pair a i j e = stmt_of (stmt.Put a (index.Two i j) e)
 
 -- for x := lo to hi do body end
-abbrev pub for_to : Word → Expr → Expr → List Stmt → Stmt
+abbrev pub for_to : NameBytes → Expr → Expr → List Stmt → Stmt
 for_to x lo hi body = stmt_of (stmt.For x lo hi body)
 
 -- if c then body end
@@ -89,49 +89,49 @@ abbrev pub less : Expr → Expr → Cond
 less e f = cond_of (cond.Rel rel.Lt e f)
 
 -- use x as role;
-abbrev pub use_as : Word → Word → Stmt
+abbrev pub use_as : NameBytes → NameBytes → Stmt
 use_as x role = stmt_of (stmt.Hand x role)
 
-abbrev pub a : Word
+abbrev pub a : NameBytes
 a = codes "a"
 
-abbrev pub i : Word
+abbrev pub i : NameBytes
 i = codes "i"
 
-abbrev pub k : Word
+abbrev pub k : NameBytes
 k = codes "k"
 
-abbrev pub n : Word
+abbrev pub n : NameBytes
 n = codes "n"
 
-abbrev pub x : Word
+abbrev pub x : NameBytes
 x = codes "x"
 
-abbrev pub covariance : Word
+abbrev pub covariance : NameBytes
 covariance = codes "covariance"
 
 -- var x;
-abbrev pub var_scalar : Word → Item
+abbrev pub var_scalar : NameBytes → Item
 var_scalar y = item_of y item.VarScalar
 
 -- var x[n];
-abbrev pub var_array : Word → ℕ → Item
+abbrev pub var_array : NameBytes → ℕ → Item
 var_array y size = item_of y (item.VarArray (extents.One (Lit size)))
 
 -- var x[n,m];
-abbrev pub var_matrix : Word → ℕ → ℕ → Item
+abbrev pub var_matrix : NameBytes → ℕ → ℕ → Item
 var_matrix y rows columns = item_of y (item.VarArray (extents.Two (Lit rows) (Lit columns)))
 
-abbrev pub held : Word → List ℤ → StartCell
+abbrev pub held : NameBytes → List ℤ → StartCell
 held y numbers = record { name = y; numbers = numbers }
 
 abbrev pub start_with : List StartCell → Start
 start_with cells = record { cells = cells }
 
-abbrev pub cell : Word → ℤ → Cell
+abbrev pub cell : NameBytes → ℤ → Cell
 cell y place = record { name = y; i = place; j = pos 0 }
 
-abbrev pub entry : Word → ℤ → ℤ → Cell
+abbrev pub entry : NameBytes → ℤ → ℤ → Cell
 entry y row column = record { name = y; i = row; j = column }
 
 -- var a[10]; var i; var x; begin for i := 0 to LAST do a[i] := 0; end x := a[9]; end

@@ -8,7 +8,7 @@ use Rattle.ac_tree.specs.declared.program.Extent.TheVariants.{Lit}
 use Rattle.ac_tree.specs.declared.program.ExprKind.{ExprKind}
 use Rattle.ac_tree.specs.declared.program.ExprKind.TheVariants.{Num}
 use Rattle.ac_tree.specs.declared.program.StmtKind.{StmtKind, Put}
-use Rattle.ac_tree.specs.Patterns.{At}
+use Rattle.ac_tree.specs.Patterns.{OneIndex}
 use Rattle.ac_run.specs.Opened.{hidden, expr_shape, expr_child}
 use Rattle.ac_run.specs.Declarations.{kind_of}
 
@@ -24,7 +24,7 @@ is_literal _ = false
 -- a literal is written at a literal index that such an array has
 abbrev pub is_write_within : Program → StmtKind → Bool
 unfolding hidden expr_shape expr_child
-is_write_within p (Put x (At n (Num i)) value) = is_literal value.kind && is_array_above i (kind_of p x)
+is_write_within p (Put x (OneIndex n (Num i)) value) = is_literal value.kind && is_array_above i (kind_of p x)
 is_write_within p _ = false
 
 abbrev pub WritesWithin : Program → Type 0

@@ -14,4 +14,4 @@ mod straight;
 pub use event::{Cell, Event};
 pub use runs::{a_run_halts_exactly_outside, a_stopped_run_stays, a_trace_only_grows};
 pub use start::{Start, StartCell, some_start_fits};
-pub use straight::{is_write_within, straight_writes_are_safe, writes_within};
+pub use straight::straight_writes_are_safe;
