@@ -1,0 +1,5 @@
+pub mod Blocks
+pub mod LeadsHold
+pub mod Within
+pub mod PairsCover
+pub mod PairsReached

@@ -1,0 +1,10 @@
+pub mod Opened
+pub mod Points
+pub mod Paths
+pub mod Leads
+pub mod Cuts
+pub mod Through
+pub mod Pairs
+pub mod Marks
+pub mod Examples
+pub mod Listed
