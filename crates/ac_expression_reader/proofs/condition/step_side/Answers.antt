@@ -1,0 +1,16 @@
+use Rattle.std.proofs.Common.{◌≡◌, ◌∙◌, subst, sym}
+use Rattle.std.specs.Prelude.{IfOk}
+use Rattle.ac_expression_reader.specs.ReadExpression as expression
+use Rattle.ac_expression_reader.specs.ReadCondition.{comparing, behind}
+use Rattle.ac_expression_reader.specs.Steps.{inside}
+use Rattle.ac_expression_reader.proofs.condition.step_side.Goals as goal
+
+pub returns-then-is_own : goal.returns-then-is_own
+returns-then-is_own c =
+    subst (λ b. IfOk c.step_within.result (λ r. r ≡ inside (comparing c.args.stack c.args.before c.args.side) (behind c.args.stack c.args.before c.args.side c.args.token.now.span c.args.token.now.mark) b (expression.step c.args.reading c.args.token.now) (expression.value c.args.reading))) (sym (sym c.is_own.ensures ∙ c.if-is_own.true))
+    c.step_within.ensures
+
+pub returns-else-is_own : goal.returns-else-is_own
+returns-else-is_own c =
+    subst (λ b. IfOk c.step_past.result (λ r. r ≡ inside (comparing c.args.stack c.args.before c.args.side) (behind c.args.stack c.args.before c.args.side c.args.token.now.span c.args.token.now.mark) b (expression.step c.args.reading c.args.token.now) (expression.value c.args.reading))) (sym (sym c.is_own.ensures ∙ c.if-is_own.false))
+    c.step_past.ensures

@@ -1,0 +1,3 @@
+pub mod NumberRules
+pub mod NumberLists
+pub mod NumberedTwice

@@ -1,0 +1,3 @@
+pub mod TokenFaults
+pub mod Runs
+pub mod Pieces
