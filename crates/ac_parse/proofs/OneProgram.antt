@@ -4,7 +4,7 @@ use Rattle.ac_tree.specs.declared.program.Program.{Program}
 use Rattle.ac_tree.specs.Grammar.{Tokens, SpellsProgram}
 use Rattle.ac_tree.specs.Numbering.{numbered_program}
 use Rattle.ac_tree.specs.Spelling.{Spells}
-use Rattle.ac_parse.proofs.Cuts.{cut_once}
+use Rattle.ac_tokens.proofs.Cuts.{cut_once}
 use Rattle.ac_parse.proofs.ProgramComplete.{one_program}
 
 pub one_spelled : (bytes : List ℕ) (p q : Program) → Spells bytes p → Spells bytes q → p ≡ q

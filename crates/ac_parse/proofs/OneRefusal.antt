@@ -3,6 +3,7 @@ use Rattle.std.proofs.Common.{◌≡◌, ℕ, ◌≤◌, ◌<◌, List, [], ◌�
 use Rattle.std.proofs.Math.Seq.{take-length}
 use Rattle.std.proofs.lemmas.Str.{utf8_valid_len-IsValidUpTo}
 use Rattle.std.specs.Str.{IsValidUpTo}
+use Rattle.ac_tree.specs.Limits.{limit_of}
 use Rattle.ac_tree.specs.declared.limit.LimitKind.{LimitKind}
 use Rattle.ac_tree.specs.declared.limit.LimitKind.TheVariants as limit
 use Rattle.ac_tree.specs.declared.token.Token.{Token as TokenOf}
@@ -11,14 +12,14 @@ use Rattle.ac_parse.specs.declared.parsing.ParseFault.{ParseFault}
 use Rattle.ac_parse.specs.declared.parsing.ParseFault.TheVariants.{NotUtf8, Token, Unexpected, Limit, OutOfMemory}
 use Rattle.ac_parse.specs.declared.refusal.Refusal.{Refusal}
 use Rattle.ac_parse.specs.declared.refusal.Refusal.TheVariants as refusal
-use Rattle.ac_parse.specs.declared.tokens.TokenFault.{TokenFault}
-use Rattle.ac_parse.specs.declared.tokens.TokenFault.TheVariants as fault
+use Rattle.ac_tokens.specs.declared.token_fault.TokenFault.{TokenFault}
+use Rattle.ac_tokens.specs.declared.token_fault.TokenFault.TheVariants as fault
 use Rattle.ac_parse.specs.Limits.{nesting_of, operators_of, StaysWithin}
-use Rattle.ac_parse.specs.Parsing.{HasTokenFault, IsRefusedAfterCut, HasTooManyNodes, PassesLimit, IsParseFault}
+use Rattle.ac_parse.specs.Parsing.{IsShort, HasTokenFault, IsRefusedAfterCut, HasTooManyNodes, PassesLimit, IsParseFault}
 use Rattle.ac_parse.specs.Refusals.{Refuses, IsRefused}
-use Rattle.ac_parse.specs.TokenFaults.{IsTokenized}
-use Rattle.ac_parse.proofs.Cuts.{cut_once, fault_excludes}
-use Rattle.ac_parse.proofs.OneFault.{one_fault}
+use Rattle.ac_tokens.specs.TokenFaults.{IsTokenized}
+use Rattle.ac_tokens.proofs.Cuts.{cut_once, fault_excludes}
+use Rattle.ac_tokens.proofs.OneFault.{one_fault}
 use Rattle.ac_parse.proofs.Refused.{not_refused}
 
 -- tokens are refused at one place, and so
@@ -33,7 +34,7 @@ goes_past n before rest after t refusal.Operators h s c = omega (arith, h.1, (s 
 goes_past n before rest after t (refusal.Unexpected a) h s c =
     h.1 (record { tree = c.tree; more = rest ++ c.more; spelled = subst (λ ts. SpellsProgram c.tree ts) (behind_one before rest c.more t) c.spelled })
 
-whole_within : (ts : Tokens) → StaysWithin ts → (nesting_of ts ≤ 64) × (operators_of ts ≤ 256)
+whole_within : (ts : Tokens) → StaysWithin ts → (nesting_of ts ≤ limit_of limit.Nesting) × (operators_of ts ≤ limit_of limit.Operators)
 whole_within ts s = s ts [] (sym (append-nil ts))
 
 one_at_end : (n : ℕ) (before : Tokens) (r s : Refusal) → Refuses n before [] r → Refuses n before [] s → r ≡ s
@@ -92,17 +93,17 @@ one_refused n ts r s h i =
 
 abbrev token_told : TokenFault → ParseFault
 token_told (fault.Token at) = Token at
-token_told (fault.Literal at) = Limit limit.Literal 1000000000000
-token_told (fault.Name at) = Limit limit.NameLength 32
+token_told (fault.Literal at) = Limit limit.Literal (limit_of limit.Literal)
+token_told (fault.Name at) = Limit limit.NameLength (limit_of limit.NameLength)
 token_told fault.OutOfMemory = OutOfMemory
 
 abbrev refusal_told : Refusal → ParseFault
-refusal_told refusal.Nesting = Limit limit.Nesting 64
-refusal_told refusal.Operators = Limit limit.Operators 256
+refusal_told refusal.Nesting = Limit limit.Nesting (limit_of limit.Nesting)
+refusal_told refusal.Operators = Limit limit.Operators (limit_of limit.Operators)
 refusal_told (refusal.Unexpected s) = Unexpected s
 
 abbrev IsTooLong : List ℕ → ParseFault → Type 0
-IsTooLong bytes f = (f ≡ Limit limit.ProgramBytes 1048576) × (1048576 < length bytes)
+IsTooLong bytes f = (f ≡ Limit limit.ProgramBytes (limit_of limit.ProgramBytes)) × (limit_of limit.ProgramBytes < length bytes)
 
 abbrev IsNoText : List ℕ → ParseFault → Type 0
 IsNoText bytes f = (at : ℕ) × (f ≡ NotUtf8 at) × IsValidUpTo bytes at
@@ -114,7 +115,7 @@ abbrev IsNotRead : List ℕ → ParseFault → Type 0
 IsNotRead bytes f = (r : Refusal) × (f ≡ refusal_told r) × IsRefusedAfterCut bytes r
 
 abbrev IsTooLarge : List ℕ → ParseFault → Type 0
-IsTooLarge bytes f = (f ≡ Limit limit.Nodes 50000) × HasTooManyNodes bytes
+IsTooLarge bytes f = (f ≡ Limit limit.Nodes (limit_of limit.Nodes)) × HasTooManyNodes bytes
 
 abbrev BehindTokens : List ℕ → ParseFault → Type 0
 BehindTokens bytes f = IsNotRead bytes f ⊎ IsTooLarge bytes f
@@ -123,7 +124,7 @@ abbrev BehindText : List ℕ → ParseFault → Type 0
 BehindText bytes f = IsNoToken bytes f ⊎ BehindTokens bytes f
 
 abbrev BehindLength : List ℕ → ParseFault → Type 0
-BehindLength bytes f = (length bytes ≤ 1048576) × (IsNoText bytes f ⊎ BehindText bytes f)
+BehindLength bytes f = IsShort bytes × (IsNoText bytes f ⊎ BehindText bytes f)
 
 abbrev Staged : List ℕ → ParseFault → Type 0
 Staged bytes f = IsTooLong bytes f ⊎ BehindLength bytes f

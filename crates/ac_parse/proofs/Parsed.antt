@@ -1,6 +1,7 @@
 -- What parsing comes to, stage by stage. What is spelled within the limits is refused for want of memory alone.
 use Rattle.std.proofs.Common.{◌≡◌, ℕ, ◌≤◌, ◌<◌, List, Option, Some, None, Result, Ok, Err, length, take, sym, ◌∙◌, ap, subst, arith, refl, IsUtf8}
 use Rattle.std.proofs.Math.Seq.{take-length}
+use Rattle.ac_tree.specs.Limits.{limit_of}
 use Rattle.ac_tree.specs.declared.limit.LimitKind.{LimitKind}
 use Rattle.ac_tree.specs.declared.limit.LimitKind.TheVariants as limit
 use Rattle.ac_tree.specs.declared.program.Program.{Program}
@@ -10,14 +11,14 @@ use Rattle.ac_parse.specs.declared.parsing.ParseFault.{ParseFault}
 use Rattle.ac_parse.specs.declared.parsing.ParseFault.TheVariants.{NotUtf8, Token, Unexpected, Limit, OutOfMemory}
 use Rattle.ac_parse.specs.declared.refusal.Refusal.{Refusal}
 use Rattle.ac_parse.specs.declared.refusal.Refusal.TheVariants as refusal
-use Rattle.ac_parse.specs.declared.tokens.TokenFault.{TokenFault}
-use Rattle.ac_parse.specs.declared.tokens.TokenFault.TheVariants as fault
+use Rattle.ac_tokens.specs.declared.token_fault.TokenFault.{TokenFault}
+use Rattle.ac_tokens.specs.declared.token_fault.TokenFault.TheVariants as fault
 use Rattle.ac_parse.specs.Limits.{StaysWithin}
-use Rattle.ac_parse.specs.Numbers.{NumbersProgram}
-use Rattle.ac_parse.specs.Parsing.{SpellsWithin, HasTokenFault, IsRefusedAfterCut, HasTooManyNodes, PassesLimit, IsParseFault}
+use Rattle.ac_numbering.specs.Numbers.{NumbersProgram}
+use Rattle.ac_parse.specs.Parsing.{IsShort, SpellsWithin, HasTokenFault, IsRefusedAfterCut, HasTooManyNodes, PassesLimit, IsParseFault}
 use Rattle.ac_parse.specs.ReadTokens.{read_all}
-use Rattle.ac_parse.specs.TokenFaults.{IsTokenized}
-use Rattle.ac_parse.proofs.Cuts.{cut_once, fault_excludes}
+use Rattle.ac_tokens.specs.TokenFaults.{IsTokenized}
+use Rattle.ac_tokens.proofs.Cuts.{cut_once, fault_excludes}
 use Rattle.ac_parse.proofs.ProgramComplete.{one_program}
 use Rattle.ac_parse.proofs.Refused.{Says, all_say, not_refused}
 
@@ -33,7 +34,7 @@ refuses_none bytes p r s h =
 few_nodes : (bytes : List ℕ) (p : Program) → SpellsWithin bytes p → HasTooManyNodes bytes → ⊥
 few_nodes bytes p s h =
     let e = one_program (subst (λ ts. SpellsProgram s.spells.tree ts) (cut_once s.spells.cut h.cut.cut) s.spells.spelled) h.spelled in
-    let few : program_nodes h.tree ≤ 50000 = subst (λ q. program_nodes q ≤ 50000) e s.few in
+    let few : program_nodes h.tree ≤ limit_of limit.Nodes = subst (λ q. program_nodes q ≤ limit_of limit.Nodes) e s.few in
     omega (arith, few, h.many)
 
 first_fault : (bytes : List ℕ) (p : Program) (f : TokenFault) → (f ≡ fault.OutOfMemory → ⊥) → SpellsWithin bytes p → HasTokenFault bytes f → ⊥
@@ -61,7 +62,7 @@ never_refused bytes p OutOfMemory s h = refl
 read_says : (n : ℕ) (ts : Tokens) (r : Result Program Refusal) → r ≡ read_all n ts → Says n ts r
 read_says n ts r e = subst (λ (x : Result Program Refusal). Says n ts x) (sym e) (all_say n ts)
 
-pub numbered_within : (bytes : List ℕ) (ts : Tokens) (tree p : Program) → length bytes ≤ 1048576 → IsTokenized bytes ts → Ok tree ≡ read_all (length bytes) ts →
+pub numbered_within : (bytes : List ℕ) (ts : Tokens) (tree p : Program) → IsShort bytes → IsTokenized bytes ts → Ok tree ≡ read_all (length bytes) ts →
     NumbersProgram tree (Some p) → SpellsWithin bytes p
 numbered_within bytes ts tree p short cut e h =
     let s = read_says (length bytes) ts (Ok tree) e in

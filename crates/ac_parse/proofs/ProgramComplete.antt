@@ -12,7 +12,7 @@ use Rattle.ac_tree.specs.declared.token.Mark.TheVariants as mark
 use Rattle.ac_tree.specs.declared.token.Sign.TheVariants as sign
 use Rattle.ac_tree.specs.declared.token.Token.{Token}
 use Rattle.ac_tree.specs.Grammar as g
-use Rattle.ac_tree.specs.Grammar.{Tokens, Word, SpellsInt, SpellsExtent, SpellsExtents, SpellsItem, SpellsItems, SpellsBlock, SpellsProgram, name, keyword_at, sign_at, join, node, first_span}
+use Rattle.ac_tree.specs.Grammar.{Tokens, NameBytes, SpellsInt, SpellsExtent, SpellsExtents, SpellsItem, SpellsItems, SpellsBlock, SpellsProgram, name, keyword_at, sign_at, join, node, first_span}
 use Rattle.ac_parse.specs.declared.declaration.DeclState.{DeclState}
 use Rattle.ac_parse.specs.declared.declaration.DeclState.TheVariants.{Between, Const, ConstName, Int, Minus, IntRead, Stored, StoredName, Extent as ExtentIn, ExtentRead, Extended}
 use Rattle.ac_parse.specs.declared.declaration.IntUse.{IntUse}
@@ -24,7 +24,7 @@ use Rattle.ac_parse.specs.declared.declaration.Storage.TheVariants as storage
 use Rattle.ac_parse.specs.declared.statement.StmtReading.{StmtReading}
 use Rattle.ac_parse.specs.ReadStatement as statement
 use Rattle.ac_parse.specs.ReadProgram.{start, begin_of, program_of, body_of, body_ends, extents_of, step, value, runs}
-use Rattle.ac_parse.proofs.Paths.{Reaches, reached, path_runs, path_within, step_runs, inside_taken, inside_passed}
+use Rattle.ac_expression_reader.proofs.Paths.{Reaches, reached, path_runs, path_within, step_runs, inside_taken, inside_passed}
 use Rattle.ac_parse.proofs.StatementComplete.{block_reached}
 use Rattle.ac_parse.proofs.StatementEnds.{block_own, block_closed}
 
@@ -41,12 +41,12 @@ int_moves : {k : ℤ} {ts : Tokens} → SpellsInt k ts → (ds : List Item) (u :
 int_moves (g.bare n s) = λ ds u rest. refl
 int_moves (g.below n o s) = λ ds u rest. refl
 
-extent_moves : {a : Extent} {ts : Tokens} → SpellsExtent a ts → (ds : List Item) (w : Storage) (s : Span) (x : Word) (f : Option Extent) (rest : Tokens) →
+extent_moves : {a : Extent} {ts : Tokens} → SpellsExtent a ts → (ds : List Item) (w : Storage) (s : Span) (x : NameBytes) (f : Option Extent) (rest : Tokens) →
     run ds (ExtentIn w s x f) (ts ++ rest) ≡ run ds (ExtentRead w s x f a) rest
 extent_moves (g.fixed n s) = λ ds w t x f rest. refl
 extent_moves (g.named y s) = λ ds w t x f rest. refl
 
-extents_move : {a : Extents} {ts : Tokens} → SpellsExtents a ts → (ds : List Item) (w : Storage) (s : Span) (x : Word) (rest : Tokens) →
+extents_move : {a : Extents} {ts : Tokens} → SpellsExtents a ts → (ds : List Item) (w : Storage) (s : Span) (x : NameBytes) (rest : Tokens) →
     run ds (StoredName w s x) (ts ++ rest) ≡ run ds (Extended w s x a) rest
 extents_move (g.one {a = a} {ts = ts} o c d) = λ ds w s x rest.
     ap (run ds (ExtentIn w s x None)) (append_assoc ts (sign_at sign.CloseBracket c ∷ []) rest) ∙ extent_moves d ds w s x None (sign_at sign.CloseBracket c ∷ rest)

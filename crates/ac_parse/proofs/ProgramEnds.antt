@@ -9,7 +9,7 @@ use Rattle.ac_tree.specs.declared.program.Program.{Program}
 use Rattle.ac_tree.specs.declared.token.Keyword.TheVariants as keyword
 use Rattle.ac_tree.specs.declared.token.Sign.TheVariants as sign
 use Rattle.ac_tree.specs.declared.token.Token.{Token}
-use Rattle.ac_tree.specs.Grammar.{Tokens, Word, keyword_at, sign_at, name, literal}
+use Rattle.ac_tree.specs.Grammar.{Tokens, NameBytes, keyword_at, sign_at, name, literal}
 use Rattle.ac_parse.specs.declared.declaration.DeclState.{DeclState}
 use Rattle.ac_parse.specs.declared.declaration.DeclState.TheVariants.{Between, Const, ConstName, Int, Minus, IntRead, Stored, StoredName, Extent as ExtentIn, ExtentRead, Extended}
 use Rattle.ac_parse.specs.declared.declaration.IntUse.{IntUse}
@@ -21,8 +21,8 @@ use Rattle.ac_parse.specs.declared.declaration.Storage.TheVariants as storage
 use Rattle.ac_parse.specs.declared.statement.StmtReading.{StmtReading}
 use Rattle.ac_parse.specs.ReadStatement as statement
 use Rattle.ac_parse.specs.ReadProgram.{extents_of, program_of, body_of, step, value, runs}
-use Rattle.ac_parse.proofs.ExpressionEnds.{nowhere}
-use Rattle.ac_parse.proofs.Paths.{Reaches, reached}
+use Rattle.ac_expression_reader.proofs.ExpressionEnds.{nowhere}
+use Rattle.ac_expression_reader.proofs.Paths.{Reaches, reached}
 use Rattle.ac_parse.proofs.ProgramComplete.{body_leads}
 use Rattle.ac_parse.proofs.StatementEnds.{block_ends}
 
@@ -43,7 +43,7 @@ body_completed ds b m =
 between_completed : (ds : List Item) → Completed (Declarations ds Between)
 between_completed ds = by (Declarations ds Between) (Body ds nowhere statement.start) (keyword_at keyword.Begin nowhere) refl (body_completed ds nowhere statement.start)
 
-high_completed : (ds : List Item) (s : Span) (x : Word) (a : Option Extents) (low k : ℤ) → Completed (Declarations ds (IntRead (High s x a low) k))
+high_completed : (ds : List Item) (s : Span) (x : NameBytes) (a : Option Extents) (low k : ℤ) → Completed (Declarations ds (IntRead (High s x a low) k))
 high_completed ds s x a low k = by (Declarations ds (IntRead (High s x a low) k)) _ (sign_at sign.Semicolon nowhere) refl (between_completed _)
 
 read_completed : (ds : List Item) (u : IntUse) (k : ℤ) → Completed (Declarations ds (IntRead u k))
@@ -55,15 +55,15 @@ read_completed ds (High s x a low) k = high_completed ds s x a low k
 int_completed : (ds : List Item) (u : IntUse) → Completed (Declarations ds (Int u))
 int_completed ds u = by (Declarations ds (Int u)) (Declarations ds (IntRead u (pos 0))) (literal 0 nowhere) refl (read_completed ds u (pos 0))
 
-extended_completed : (ds : List Item) (w : Storage) (s : Span) (x : Word) (a : Extents) → Completed (Declarations ds (Extended w s x a))
+extended_completed : (ds : List Item) (w : Storage) (s : Span) (x : NameBytes) (a : Extents) → Completed (Declarations ds (Extended w s x a))
 extended_completed ds storage.Input s x a = by (Declarations ds (Extended storage.Input s x a)) (Declarations ds (Int (Low s x (Some a)))) (sign_at sign.Colon nowhere) refl (int_completed ds (Low s x (Some a)))
 extended_completed ds storage.Var s x a = by (Declarations ds (Extended storage.Var s x a)) _ (sign_at sign.Semicolon nowhere) refl (between_completed _)
 
-named_completed : (ds : List Item) (w : Storage) (s : Span) (x : Word) → Completed (Declarations ds (StoredName w s x))
+named_completed : (ds : List Item) (w : Storage) (s : Span) (x : NameBytes) → Completed (Declarations ds (StoredName w s x))
 named_completed ds storage.Input s x = by (Declarations ds (StoredName storage.Input s x)) (Declarations ds (Int (Low s x None))) (sign_at sign.Colon nowhere) refl (int_completed ds (Low s x None))
 named_completed ds storage.Var s x = by (Declarations ds (StoredName storage.Var s x)) _ (sign_at sign.Semicolon nowhere) refl (between_completed _)
 
-extent_completed : (ds : List Item) (w : Storage) (s : Span) (x : Word) (f : Option Extent) (a : Extent) → Completed (Declarations ds (ExtentRead w s x f a))
+extent_completed : (ds : List Item) (w : Storage) (s : Span) (x : NameBytes) (f : Option Extent) (a : Extent) → Completed (Declarations ds (ExtentRead w s x f a))
 extent_completed ds w s x f a = by (Declarations ds (ExtentRead w s x f a)) (Declarations ds (Extended w s x (extents_of f a))) (sign_at sign.CloseBracket nowhere) refl (extended_completed ds w s x (extents_of f a))
 
 state_completed : (ds : List Item) (s : DeclState) → Completed (Declarations ds s)

@@ -15,7 +15,7 @@ use Rattle.ac_tree.specs.declared.token.Mark.TheVariants as mark
 use Rattle.ac_tree.specs.declared.token.Sign.TheVariants as sign
 use Rattle.ac_tree.specs.declared.token.Token.{Token}
 use Rattle.ac_tree.specs.Grammar as g
-use Rattle.ac_tree.specs.Grammar.{Tokens, Word, SpellsInt, SpellsExtent, SpellsExtents, SpellsItem, SpellsItems, SpellsBlock, SpellsProgram, token, name, literal, keyword_at, sign_at, join, node, declaration, first_span}
+use Rattle.ac_tree.specs.Grammar.{Tokens, NameBytes, SpellsInt, SpellsExtent, SpellsExtents, SpellsItem, SpellsItems, SpellsBlock, SpellsProgram, token, name, literal, keyword_at, sign_at, join, node, declaration, first_span}
 use Rattle.ac_parse.specs.declared.declaration.DeclState.{DeclState}
 use Rattle.ac_parse.specs.declared.declaration.DeclState.TheVariants.{Between, Const, ConstName, Int, Minus, IntRead, Stored, StoredName, Extent as ExtentIn, ExtentRead, Extended}
 use Rattle.ac_parse.specs.declared.declaration.IntUse.{IntUse}
@@ -27,8 +27,8 @@ use Rattle.ac_parse.specs.declared.declaration.Storage.TheVariants as storage
 use Rattle.ac_parse.specs.declared.statement.StmtReading.{StmtReading}
 use Rattle.ac_parse.specs.ReadStatement as statement
 use Rattle.ac_parse.specs.ReadProgram.{start, declare, between, const_name, const_equal, int, negative, int_ends, const_ends, low_ends, high_ends, stored_name, named, sized, input_goes_on, var_ends, input_kind, var_kind, extent_comes, extent_ends, next_extent, extents_of, begin_of, program_of, body_of, body_ends, step, value}
-use Rattle.ac_parse.proofs.ExpressionSound.{◌⋯◌, Just}
-use Rattle.ac_parse.proofs.Paths.{IsPath, path_more, inside_cases}
+use Rattle.ac_expression_reader.proofs.ExpressionSound.{◌⋯◌, Just}
+use Rattle.ac_expression_reader.proofs.Paths.{IsPath, path_more, inside_cases}
 use Rattle.ac_parse.proofs.ProgramComplete.{items_begin}
 use Rattle.ac_parse.proofs.StatementSound.{block_spelled}
 
@@ -83,7 +83,7 @@ on : (ds : List Item) (s : DeclState) (bs us : Tokens) → SpellsItems ds bs →
 on ds s bs us b h = (bs, us, refl, b, h)
 
 -- a declaration is whole
-whole_read : (ds : List Item) (s : Span) (x : Word) (k : ItemKind) (bs us : Tokens) → SpellsItems ds bs → SpellsItem (declaration s x k) us →
+whole_read : (ds : List Item) (s : Span) (x : NameBytes) (k : ItemKind) (bs us : Tokens) → SpellsItems ds bs → SpellsItem (declaration s x k) us →
     IsRead (Declarations (ds ++ declaration s x k ∷ []) Between) (bs ++ us)
 whole_read ds s x k bs us b d = (bs ++ us, [], sym (append-nil (bs ++ us)), one_more b (declaration s x k) us d, refl)
 
@@ -101,7 +101,7 @@ const_read : (ds : List Item) (s e : Span) (m : Mark) (bs us : Tokens) → Spell
 const_read ds s e (mark.Name x) bs us b h = on ds (ConstName s x) bs (us ++ name x e ∷ []) b (e, ap (λ ws. ws ++ name x e ∷ []) h)
 const_read ds s e _ bs us b h = tt
 
-const_name_read : (ds : List Item) (s : Span) (x : Word) (e : Span) (m : Mark) (bs us : Tokens) → SpellsItems ds bs → InState (ConstName s x) us → Step (const_equal ds s x m) m e bs us
+const_name_read : (ds : List Item) (s : Span) (x : NameBytes) (e : Span) (m : Mark) (bs us : Tokens) → SpellsItems ds bs → InState (ConstName s x) us → Step (const_equal ds s x m) m e bs us
 const_name_read ds s x e (mark.Sign sign.Equal) bs us b h = on ds (Int (Value s x)) bs (us ++ sign_at sign.Equal e ∷ []) b (h.0, e, ap (λ ws. ws ++ sign_at sign.Equal e ∷ []) h.1)
 const_name_read ds s x e _ bs us b h = tt
 
@@ -119,24 +119,24 @@ minus_read ds u e _ bs us b h = tt
 abbrev Ended : Option ProgramReading → (m : Mark) (e : Span) (bs us vs : Tokens) → Type 0
 Ended o m e bs us vs = After o (bs ++ (us ++ (vs ++ token m e ∷ [])))
 
-const_ends_read : (ds : List Item) (s : Span) (x : Word) (k : ℤ) (e : Span) (m : Mark) (bs us vs : Tokens) → SpellsItems ds bs → InUse (Value s x) us → SpellsInt k vs →
+const_ends_read : (ds : List Item) (s : Span) (x : NameBytes) (k : ℤ) (e : Span) (m : Mark) (bs us vs : Tokens) → SpellsItems ds bs → InUse (Value s x) us → SpellsInt k vs →
     Ended (const_ends ds s x k e m) m e bs us vs
 const_ends_read ds s x k e (mark.Sign sign.Semicolon) bs us vs b h d =
     whole_read ds (join s e) x (item.Const k) bs (us ++ (vs ++ sign_at sign.Semicolon e ∷ [])) b (rw h.2 (g.constant x s h.0 h.1 e d))
 const_ends_read ds s x k e _ bs us vs b h d = tt
 
-low_ends_read : (ds : List Item) (s : Span) (x : Word) (a : Option Extents) (k : ℤ) (e : Span) (m : Mark) (bs us vs : Tokens) → SpellsItems ds bs → InUse (Low s x a) us → SpellsInt k vs →
+low_ends_read : (ds : List Item) (s : Span) (x : NameBytes) (a : Option Extents) (k : ℤ) (e : Span) (m : Mark) (bs us vs : Tokens) → SpellsItems ds bs → InUse (Low s x a) us → SpellsInt k vs →
     Ended (low_ends ds s x a k m) m e bs us vs
 low_ends_read ds s x a k e (mark.Sign sign.DotDot) bs us vs b h d =
     on ds (Int (High s x a k)) bs (us ++ (vs ++ sign_at sign.DotDot e ∷ [])) b (h.0, h.1, e, h.2, vs, rw h.3 (simp append_assoc), h.4, d)
 low_ends_read ds s x a k e _ bs us vs b h d = tt
 
-input_spelled : (s : Span) (x : Word) (n o d e : Span) (a : Option Extents) (low high : ℤ) (es ls hs : Tokens) → InExtents a es → SpellsInt low ls → SpellsInt high hs →
+input_spelled : (s : Span) (x : NameBytes) (n o d e : Span) (a : Option Extents) (low high : ℤ) (es ls hs : Tokens) → InExtents a es → SpellsInt low ls → SpellsInt high hs →
     SpellsItem (declaration (join s e) x (input_kind a low high)) (keyword_at keyword.Input s ∷ name x n ∷ (es ++ sign_at sign.Colon o ∷ (ls ++ sign_at sign.DotDot d ∷ (hs ++ sign_at sign.Semicolon e ∷ []))))
 input_spelled s x n o d e None low high es ls hs h p q = rw h (g.input_scalar x s n o d e p q)
 input_spelled s x n o d e (Some a) low high es ls hs h p q = g.input_array x s n o d e h p q
 
-high_ends_read : (ds : List Item) (s : Span) (x : Word) (a : Option Extents) (low k : ℤ) (e : Span) (m : Mark) (bs us vs : Tokens) → SpellsItems ds bs → InUse (High s x a low) us → SpellsInt k vs →
+high_ends_read : (ds : List Item) (s : Span) (x : NameBytes) (a : Option Extents) (low k : ℤ) (e : Span) (m : Mark) (bs us vs : Tokens) → SpellsItems ds bs → InUse (High s x a low) us → SpellsInt k vs →
     Ended (high_ends ds s x a low k e m) m e bs us vs
 high_ends_read ds s x a low k e (mark.Sign sign.Semicolon) bs us vs b h d =
     whole_read ds (join s e) x (input_kind a low k) bs (us ++ (vs ++ sign_at sign.Semicolon e ∷ [])) b
@@ -152,40 +152,40 @@ stored_read : (ds : List Item) (w : Storage) (s e : Span) (m : Mark) (bs us : To
 stored_read ds w s e (mark.Name x) bs us b h = on ds (StoredName w s x) bs (us ++ name x e ∷ []) b (e, ap (λ ws. ws ++ name x e ∷ []) h)
 stored_read ds w s e _ bs us b h = tt
 
-input_read : (ds : List Item) (s : Span) (x : Word) (n : Span) (a : Option Extents) (e : Span) (m : Mark) (bs us es : Tokens) → SpellsItems ds bs → us ≡ keyword_at keyword.Input s ∷ name x n ∷ es → InExtents a es →
+input_read : (ds : List Item) (s : Span) (x : NameBytes) (n : Span) (a : Option Extents) (e : Span) (m : Mark) (bs us es : Tokens) → SpellsItems ds bs → us ≡ keyword_at keyword.Input s ∷ name x n ∷ es → InExtents a es →
     Step (input_goes_on ds s x a m) m e bs us
 input_read ds s x n a e (mark.Sign sign.Colon) bs us es b h d = on ds (Int (Low s x a)) bs (us ++ sign_at sign.Colon e ∷ []) b (n, e, es, ap (λ ws. ws ++ sign_at sign.Colon e ∷ []) h, d)
 input_read ds s x n a e _ bs us es b h d = tt
 
-var_spelled : (s : Span) (x : Word) (n e : Span) (a : Option Extents) (es : Tokens) → InExtents a es →
+var_spelled : (s : Span) (x : NameBytes) (n e : Span) (a : Option Extents) (es : Tokens) → InExtents a es →
     SpellsItem (declaration (join s e) x (var_kind a)) (keyword_at keyword.Var s ∷ name x n ∷ (es ++ sign_at sign.Semicolon e ∷ []))
 var_spelled s x n e None es h = rw h (g.var_scalar x s n e)
 var_spelled s x n e (Some a) es h = g.var_array x s n e h
 
-var_read : (ds : List Item) (s : Span) (x : Word) (n : Span) (a : Option Extents) (e : Span) (m : Mark) (bs us es : Tokens) → SpellsItems ds bs → us ≡ keyword_at keyword.Var s ∷ name x n ∷ es → InExtents a es →
+var_read : (ds : List Item) (s : Span) (x : NameBytes) (n : Span) (a : Option Extents) (e : Span) (m : Mark) (bs us es : Tokens) → SpellsItems ds bs → us ≡ keyword_at keyword.Var s ∷ name x n ∷ es → InExtents a es →
     Step (var_ends ds s x a e m) m e bs us
 var_read ds s x n a e (mark.Sign sign.Semicolon) bs us es b h d =
     whole_read ds (join s e) x (var_kind a) bs (us ++ sign_at sign.Semicolon e ∷ []) b (rw h (var_spelled s x n e a es d))
 var_read ds s x n a e _ bs us es b h d = tt
 
-sized_read : (ds : List Item) (w : Storage) (s : Span) (x : Word) (n : Span) (a : Option Extents) (e : Span) (m : Mark) (bs us es : Tokens) → SpellsItems ds bs → us ≡ word_of w s ∷ name x n ∷ es → InExtents a es →
+sized_read : (ds : List Item) (w : Storage) (s : Span) (x : NameBytes) (n : Span) (a : Option Extents) (e : Span) (m : Mark) (bs us es : Tokens) → SpellsItems ds bs → us ≡ word_of w s ∷ name x n ∷ es → InExtents a es →
     Step (sized ds w s x a e m) m e bs us
 sized_read ds storage.Input s x n a e m bs us es b h d = input_read ds s x n a e m bs us es b h d
 sized_read ds storage.Var s x n a e m bs us es b h d = var_read ds s x n a e m bs us es b h d
 
-named_read : (ds : List Item) (w : Storage) (s : Span) (x : Word) (e : Span) (m : Mark) (bs us : Tokens) → SpellsItems ds bs → InState (StoredName w s x) us → Step (named ds w s x e m) m e bs us
+named_read : (ds : List Item) (w : Storage) (s : Span) (x : NameBytes) (e : Span) (m : Mark) (bs us : Tokens) → SpellsItems ds bs → InState (StoredName w s x) us → Step (named ds w s x e m) m e bs us
 named_read ds w s x e (mark.Sign sign.OpenBracket) bs us b h =
     on ds (ExtentIn w s x None) bs (us ++ sign_at sign.OpenBracket e ∷ []) b (h.0, e, [], ap (λ ws. ws ++ sign_at sign.OpenBracket e ∷ []) h.1, refl)
 named_read ds w s x e m bs us b h = sized_read ds w s x h.0 None e m bs us [] b h.1 refl
 
-extent_read : (ds : List Item) (w : Storage) (s : Span) (x : Word) (f : Option Extent) (e : Span) (m : Mark) (bs us : Tokens) → SpellsItems ds bs → InState (ExtentIn w s x f) us → Step (extent_comes ds w s x f m) m e bs us
+extent_read : (ds : List Item) (w : Storage) (s : Span) (x : NameBytes) (f : Option Extent) (e : Span) (m : Mark) (bs us : Tokens) → SpellsItems ds bs → InState (ExtentIn w s x f) us → Step (extent_comes ds w s x f m) m e bs us
 extent_read ds w s x f e (mark.Literal n) bs us b h =
     on ds (ExtentRead w s x f (extent.Lit n)) bs (us ++ literal n e ∷ []) b (h.0, h.1, h.2, literal n e ∷ [], ap (λ ws. ws ++ literal n e ∷ []) h.3, h.4, g.fixed n e)
 extent_read ds w s x f e (mark.Name y) bs us b h =
     on ds (ExtentRead w s x f (extent.Named y)) bs (us ++ name y e ∷ []) b (h.0, h.1, h.2, name y e ∷ [], ap (λ ws. ws ++ name y e ∷ []) h.3, h.4, g.named y e)
 extent_read ds w s x f e _ bs us b h = tt
 
-close_read : (ds : List Item) (w : Storage) (s : Span) (x : Word) (f : Option Extent) (a : Extent) (e : Span) (bs us : Tokens) → SpellsItems ds bs → InState (ExtentRead w s x f a) us →
+close_read : (ds : List Item) (w : Storage) (s : Span) (x : NameBytes) (f : Option Extent) (a : Extent) (e : Span) (bs us : Tokens) → SpellsItems ds bs → InState (ExtentRead w s x f a) us →
     IsRead (Declarations ds (Extended w s x (extents_of f a))) (bs ++ (us ++ sign_at sign.CloseBracket e ∷ []))
 close_read ds w s x None a e bs us b h =
     let close = sign_at sign.CloseBracket e ∷ [] in
@@ -196,13 +196,13 @@ close_read ds w s x (Some f) a e bs us b h =
     on ds (Extended w s x (extents_of (Some f) a)) bs (us ++ close) b
     (h.0, sign_at sign.OpenBracket h.1 ∷ (q.1 ++ sign_at sign.Comma q.0 ∷ (h.3 ++ close)), rw (h.4, q.2) (simp append_assoc), g.two h.1 q.0 e q.3 h.6)
 
-comma_read : (ds : List Item) (w : Storage) (s : Span) (x : Word) (f : Option Extent) (a : Extent) (e : Span) (bs us : Tokens) → SpellsItems ds bs → InState (ExtentRead w s x f a) us →
+comma_read : (ds : List Item) (w : Storage) (s : Span) (x : NameBytes) (f : Option Extent) (a : Extent) (e : Span) (bs us : Tokens) → SpellsItems ds bs → InState (ExtentRead w s x f a) us →
     After (next_extent ds w s x f a) (bs ++ (us ++ sign_at sign.Comma e ∷ []))
 comma_read ds w s x None a e bs us b h =
     on ds (ExtentIn w s x (Some a)) bs (us ++ sign_at sign.Comma e ∷ []) b (h.0, h.1, h.3 ++ sign_at sign.Comma e ∷ [], rw (h.4, h.5) refl, (e, h.3, refl, h.6))
 comma_read ds w s x (Some f) a e bs us b h = tt
 
-extent_ends_read : (ds : List Item) (w : Storage) (s : Span) (x : Word) (f : Option Extent) (a : Extent) (e : Span) (m : Mark) (bs us : Tokens) → SpellsItems ds bs → InState (ExtentRead w s x f a) us →
+extent_ends_read : (ds : List Item) (w : Storage) (s : Span) (x : NameBytes) (f : Option Extent) (a : Extent) (e : Span) (m : Mark) (bs us : Tokens) → SpellsItems ds bs → InState (ExtentRead w s x f a) us →
     Step (extent_ends ds w s x f a m) m e bs us
 extent_ends_read ds w s x f a e (mark.Sign sign.CloseBracket) bs us b h = close_read ds w s x f a e bs us b h
 extent_ends_read ds w s x f a e (mark.Sign sign.Comma) bs us b h = comma_read ds w s x f a e bs us b h

@@ -2,6 +2,8 @@
 use Rattle.std.proofs.Common.{◌≡◌, ℕ, ◌≤◌, ◌<◌, nat_lt, Bool, true, false, if◌then◌else◌, List, [], ◌∷◌, ◌++◌, Option, Some, None, Result, Ok, Err, fold, refl, sym, ◌∙◌, ap, subst, append_assoc, append-nil, arith, ◌↔◌}
 use Rattle.std.proofs.lemmas.Bool.Decides.{nat_tests}
 use Rattle.std.proofs.lemmas.List.Sums.{fold-append}
+use Rattle.ac_tree.specs.declared.limit.LimitKind.TheVariants as limit
+use Rattle.ac_tree.specs.Limits.{limit_of}
 use Rattle.ac_tree.specs.declared.program.Program.{Program}
 use Rattle.ac_tree.specs.declared.token.Token.{Token}
 use Rattle.ac_tree.specs.Grammar.{Tokens, SpellsProgram, Continues}
@@ -12,7 +14,7 @@ use Rattle.ac_parse.specs.Limits.{nested, operated, nesting_of, operators_of, St
 use Rattle.ac_parse.specs.ReadProgram.{start, step, value, runs}
 use Rattle.ac_parse.specs.ReadTokens.{ended, reads, read_all}
 use Rattle.ac_parse.specs.Refusals.{NoneGoesOn, next_span, Refuses, IsRefused}
-use Rattle.ac_parse.proofs.Paths.{IsPath, Reaches, reached, go_on, path_runs, path_more}
+use Rattle.ac_expression_reader.proofs.Paths.{IsPath, Reaches, reached, go_on, path_runs, path_more}
 use Rattle.ac_parse.proofs.ProgramComplete.{complete, one_program}
 use Rattle.ac_parse.proofs.ProgramEnds.{completed}
 use Rattle.ac_parse.proofs.ProgramSound.{program_spelled}
@@ -54,10 +56,10 @@ front (u ∷ ts) (b ∷ bs) after t a h =
     let r = front ts bs after t a tail in
     (r.0, ap (λ v. v ∷ ts) head ∙ ap (λ us. b ∷ us) r.1)
 
-stays_more : (ts : Tokens) (t : Token) → StaysWithin ts → nesting_of (ts ++ t ∷ []) ≤ 64 → operators_of (ts ++ t ∷ []) ≤ 256 → StaysWithin (ts ++ t ∷ [])
+stays_more : (ts : Tokens) (t : Token) → StaysWithin ts → nesting_of (ts ++ t ∷ []) ≤ limit_of limit.Nesting → operators_of (ts ++ t ∷ []) ≤ limit_of limit.Operators → StaysWithin (ts ++ t ∷ [])
 stays_more ts t s n o before [] h =
     let e : ts ++ t ∷ [] ≡ before = h ∙ append-nil before in
-    (subst (λ us. nesting_of us ≤ 64) e n, subst (λ us. operators_of us ≤ 256) e o)
+    (subst (λ us. nesting_of us ≤ limit_of limit.Nesting) e n, subst (λ us. operators_of us ≤ limit_of limit.Operators) e o)
 stays_more ts t s n o before (a ∷ after) h = let r = front ts before after t a h in s before r.0 r.1
 
 stays_nothing : StaysWithin []
@@ -96,14 +98,14 @@ reads_say (t ∷ us) n ts m d o p s dh oh =
     let dn = nested_more ts t d dh in
     let on = operated_more ts t o oh in
     let stepped : Option ProgramReading → Result Program Refusal = λ x. elim x [ None ↦ Err (Unexpected t.span) | Some j ↦ reads n j (nested d t.mark) (operated o t.mark) us ] in
-    (elim (nat_lt 64 (nested d t.mark)) as (λ b. nat_lt 64 (nested d t.mark) ≡ b → Says n (ts ++ t ∷ us) (if b then Err Nesting else (if nat_lt 256 (operated o t.mark) then Err Operators else stepped (step m t)))) [
-      | true ↦ λ e. refused n ts us m t Nesting p s (subst (λ k. 64 < k) dn (big 64 (nested d t.mark) e))
+    (elim (nat_lt (limit_of limit.Nesting) (nested d t.mark)) as (λ b. nat_lt (limit_of limit.Nesting) (nested d t.mark) ≡ b → Says n (ts ++ t ∷ us) (if b then Err Nesting else (if nat_lt (limit_of limit.Operators) (operated o t.mark) then Err Operators else stepped (step m t)))) [
+      | true ↦ λ e. refused n ts us m t Nesting p s (subst (λ k. limit_of limit.Nesting < k) dn (big (limit_of limit.Nesting) (nested d t.mark) e))
       | false ↦ λ e.
-          let low = subst (λ k. k ≤ 64) dn (small 64 (nested d t.mark) e) in
-          (elim (nat_lt 256 (operated o t.mark)) as (λ b. nat_lt 256 (operated o t.mark) ≡ b → Says n (ts ++ t ∷ us) (if b then Err Operators else stepped (step m t))) [
-            | true ↦ λ f. refused n ts us m t Operators p s (low, subst (λ k. 256 < k) on (big 256 (operated o t.mark) f))
+          let low = subst (λ k. k ≤ limit_of limit.Nesting) dn (small (limit_of limit.Nesting) (nested d t.mark) e) in
+          (elim (nat_lt (limit_of limit.Operators) (operated o t.mark)) as (λ b. nat_lt (limit_of limit.Operators) (operated o t.mark) ≡ b → Says n (ts ++ t ∷ us) (if b then Err Operators else stepped (step m t))) [
+            | true ↦ λ f. refused n ts us m t Operators p s (low, subst (λ k. limit_of limit.Operators < k) on (big (limit_of limit.Operators) (operated o t.mark) f))
             | false ↦ λ f.
-                let few = subst (λ k. k ≤ 256) on (small 256 (operated o t.mark) f) in
+                let few = subst (λ k. k ≤ limit_of limit.Operators) on (small (limit_of limit.Operators) (operated o t.mark) f) in
                 let more = stays_more ts t s low few in
                 (elim (step m t) as (λ (x : Option ProgramReading). step m t ≡ x → Says n (ts ++ t ∷ us) (stepped x)) [
                   | None ↦ λ g. refused n ts us m t (Unexpected t.span) p s (refl, stuck ts m t p g, more)
@@ -123,10 +125,10 @@ not_refused n ts before [] Nesting p e h d s = h
 not_refused n ts before [] Operators p e h d s = h
 not_refused n ts before [] (Unexpected a) p e h d s = h.1 p (subst (λ us. SpellsProgram p us) (e ∙ append-nil before) d)
 not_refused n ts before (t ∷ after) Nesting p e h d s =
-    let low : nesting_of (before ++ t ∷ []) ≤ 64 = (s (before ++ t ∷ []) after (e ∙ sym (append_assoc before (t ∷ []) after))).0 in
+    let low : nesting_of (before ++ t ∷ []) ≤ limit_of limit.Nesting = (s (before ++ t ∷ []) after (e ∙ sym (append_assoc before (t ∷ []) after))).0 in
     omega (arith, h, low)
 not_refused n ts before (t ∷ after) Operators p e h d s =
-    let low : operators_of (before ++ t ∷ []) ≤ 256 = (s (before ++ t ∷ []) after (e ∙ sym (append_assoc before (t ∷ []) after))).1 in
+    let low : operators_of (before ++ t ∷ []) ≤ limit_of limit.Operators = (s (before ++ t ∷ []) after (e ∙ sym (append_assoc before (t ∷ []) after))).1 in
     omega (arith, h.1, low)
 not_refused n ts before (t ∷ after) (Unexpected a) p e h d s =
     h.1 (record { tree = p; more = after; spelled = subst (λ us. SpellsProgram p us) (e ∙ sym (append_assoc before (t ∷ []) after)) d })

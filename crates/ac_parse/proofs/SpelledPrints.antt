@@ -1,6 +1,8 @@
 -- A program that is spelled within the limits is printed as a text that spells it again.
 use Rattle.std.proofs.Common.{◌≡◌, ℕ, zero, suc, ◌+◌, ◌≤◌, ℤ, pos, neg_ℤ, List, [], ◌∷◌, ◌++◌, length, Option, Some, None, refl, sym, ◌∙◌, ap, ap₂, subst, arith, rules}
 use mathlib.Core.Former.{Count}
+use Rattle.ac_tree.specs.declared.limit.LimitKind.TheVariants as limit
+use Rattle.ac_tree.specs.Limits.{limit_of}
 use Rattle.ac_tree.specs.declared.node.Span.{Span}
 use Rattle.ac_tree.specs.declared.program.Cond.{Cond}
 use Rattle.ac_tree.specs.declared.program.CondKind.{CondKind}
@@ -22,27 +24,27 @@ use Rattle.ac_tree.specs.declared.token.Keyword.{Keyword}
 use Rattle.ac_tree.specs.declared.token.Mark.{Mark}
 use Rattle.ac_tree.specs.declared.token.Mark.TheVariants as mark
 use Rattle.ac_tree.specs.Grammar as spells
-use Rattle.ac_tree.specs.Grammar.{Tokens, Word, ExprLevel, CondLevel, SpellsExpr, SpellsIndex, SpellsCond, SpellsStmt, SpellsBlock, SpellsInt, SpellsExtent, SpellsExtents, SpellsItem, SpellsItems, SpellsProgram}
+use Rattle.ac_tree.specs.Grammar.{Tokens, NameBytes, ExprLevel, CondLevel, SpellsExpr, SpellsIndex, SpellsCond, SpellsStmt, SpellsBlock, SpellsInt, SpellsExtent, SpellsExtents, SpellsItem, SpellsItems, SpellsProgram}
 use Rattle.ac_tree.specs.Numbering.{expr_nodes, index_nodes, cond_nodes, stmt_nodes, block_nodes, list_nodes, numbered, numbered_index, numbered_expr, numbered_kind, numbered_cond, numbered_stmt, numbered_block, numbered_list, numbered_items, numbered_program}
-use Rattle.ac_tree.specs.Patterns.{Negative, Plus, Minus, Times, At, Pair, Negation, Conjunction, Disjunction}
+use Rattle.ac_tree.specs.Patterns.{Negative, Plus, Minus, Times, OneIndex, TwoIndexes, Negation, Conjunction, Disjunction}
 use Rattle.ac_tree.specs.Tokens as cut
-use Rattle.ac_tree.specs.Tokens.{kind_of, keyword_of, marked, InName, Each, IsName, Cut}
+use Rattle.ac_tree.specs.Tokens.{kind_of_byte, keyword_of, marked, InName, Each, IsName, Lexes}
 use Rattle.ac_parse.specs.Opened.{hidden, expr_shape, expr_child, cond_shape, cond_child, stmt_child}
 use Rattle.ac_parse.specs.Parsing.{SpellsWithin}
-use Rattle.ac_parse.specs.Printable.{IsUnsigned, IsSigned, IsPrintableExpr, IsPrintableIndex, IsPrintableCond, IsPrintableStmt, IsPrintableBlock, IsPrintableList, IsPrintableExtent, IsPrintableExtents, IsPrintableKind, ArePrintableItems, IsPrintable}
-use Rattle.ac_parse.specs.Printing.{program_text}
-use Rattle.ac_parse.specs.Spans.{changed_expr, changed_index, whole_expr, changed_cond, whole_cond, changed_stmt, changed_block, changed_list, changed_items, changed_program, SpellsUpToSpans}
-use Rattle.ac_parse.specs.TokenFaults.{AreWithinLimits}
-use Rattle.ac_parse.proofs.NumberRules.{numbered-If, numbered-For, numbered-While}
-use Rattle.ac_parse.proofs.PrintExpressions.{bare}
-use Rattle.ac_parse.proofs.PrintNumbers.{program_numbered}
-use Rattle.ac_parse.proofs.PrintPrograms.{spelled_again}
-use Rattle.ac_parse.proofs.PrintStatements.{changed-If, changed-For, changed-While}
+use Rattle.ac_program_printer.specs.Printable.{IsUnsigned, IsSigned, IsPrintableExpr, IsPrintableIndex, IsPrintableCond, IsPrintableStmt, IsPrintableBlock, IsPrintableList, IsPrintableExtent, IsPrintableExtents, IsPrintableKind, ArePrintableItems, IsPrintable}
+use Rattle.ac_program_printer.specs.Printing.{program_text}
+use Rattle.ac_program_printer.specs.SameUpToSpans.{changed_expr, changed_index, whole_expr, changed_cond, whole_cond, changed_stmt, changed_block, changed_list, changed_items, changed_program, SpellsUpToSpans}
+use Rattle.ac_tokens.specs.TokenFaults.{AreWithinLimits}
+use Rattle.ac_numbering.proofs.NumberRules.{numbered-If, numbered-For, numbered-While}
+use Rattle.ac_program_printer.proofs.PrintExpressions.{bare}
+use Rattle.ac_program_printer.proofs.PrintNumbers.{program_numbered}
+use Rattle.ac_program_printer.proofs.PrintPrograms.{spelled_again}
+use Rattle.ac_program_printer.proofs.PrintStatements.{changed-If, changed-For, changed-While}
 
 -- what the tokens within the limits hold
 
 abbrev Fits : Mark → Type 0
-Fits (mark.Literal n) = n ≤ 1000000000000
+Fits (mark.Literal n) = n ≤ limit_of limit.Literal
 Fits (mark.Name x) = IsName x
 Fits _ = Unit {0}
 
@@ -58,11 +60,11 @@ back : (ts us : Tokens) → AllFit (ts ++ us) → AllFit us
 back [] us h = h
 back (t ∷ ts) us h = back ts us h.1
 
-word_fits : (b : ℕ) (more : List ℕ) (k : Option Keyword) → keyword_of (b ∷ more) ≡ k → kind_of b ≡ Letter → Each InName more → Fits (marked (b ∷ more) k)
+word_fits : (b : ℕ) (more : List ℕ) (k : Option Keyword) → keyword_of (b ∷ more) ≡ k → kind_of_byte b ≡ Letter → Each InName more → Fits (marked (b ∷ more) k)
 word_fits b more (Some k) e l h = tt
 word_fits b more None e l h = (l, h, e)
 
-cut_fits : {at to : ℕ} {bytes left : List ℕ} {ts : Tokens} → Cut at bytes ts to left → AreWithinLimits ts → AllFit ts
+cut_fits : {at to : ℕ} {bytes left : List ℕ} {ts : Tokens} → Lexes at bytes ts to left → AreWithinLimits ts → AllFit ts
 cut_fits cut.nothing h = tt
 cut_fits (cut.blank k c) h = cut_fits c h
 cut_fits (cut.comment line k e f c) h = cut_fits c h
@@ -71,10 +73,10 @@ cut_fits (cut.literal more k e f z c) h = (h.0, cut_fits c h.1)
 cut_fits (cut.lone_sign s k a c) h = (tt, cut_fits c h.1)
 cut_fits (cut.joined_sign s k c) h = (tt, cut_fits c h.1)
 
-unsigned : (n : ℕ) → n ≤ 1000000000000 → IsUnsigned n
+unsigned : (n : ℕ) → n ≤ limit_of limit.Literal → IsUnsigned n
 unsigned n h = omega (arith, h)
 
-negated : (n : ℕ) → n ≤ 1000000000000 → IsSigned (neg_ℤ (pos n))
+negated : (n : ℕ) → n ≤ limit_of limit.Literal → IsSigned (neg_ℤ (pos n))
 negated zero h = omega arith
 negated (suc n) h = omega (arith, h)
 
@@ -124,7 +126,7 @@ printable_row xs = first_of (search (rules, stmt_lemmas, printable_block-items),
 printable-If : (t : Cond) (xs ys : List Stmt) → IsPrintableStmt (stmt.If t xs ys) ≡ (IsPrintableCond t.kind × IsPrintableList xs × IsPrintableList ys)
 printable-If t xs ys = ap₂ (λ (X Y : Type 0). IsPrintableCond t.kind × X × Y) (printable_row xs) (printable_row ys)
 
-printable-For : (x : Word) (a b : Expr) (xs : List Stmt) → IsPrintableStmt (stmt.For x a b xs) ≡ (IsName x × IsPrintableExpr a.kind × IsPrintableExpr b.kind × IsPrintableList xs)
+printable-For : (x : NameBytes) (a b : Expr) (xs : List Stmt) → IsPrintableStmt (stmt.For x a b xs) ≡ (IsName x × IsPrintableExpr a.kind × IsPrintableExpr b.kind × IsPrintableList xs)
 printable-For x a b xs = ap (λ (X : Type 0). IsName x × IsPrintableExpr a.kind × IsPrintableExpr b.kind × X) (printable_row xs)
 
 printable-While : (t : Cond) (xs : List Stmt) → IsPrintableStmt (stmt.While t xs) ≡ (IsPrintableCond t.kind × IsPrintableList xs)
@@ -135,7 +137,7 @@ if_prints : (i : ℕ) (t : Cond) (xs ys : List Stmt) → IsPrintableCond (number
 if_prints i t xs ys c h k = subst (λ (T : Type 0). T) (sym (ap IsPrintableStmt (numbered-If i t xs ys) ∙
     printable-If (numbered_cond (i + 1) t) (numbered_list (i + 1 + cond_nodes t.kind) xs) (numbered_list (i + 1 + cond_nodes t.kind + list_nodes xs) ys))) (c, h, k)
 
-for_prints : (i : ℕ) (x : Word) (a b : Expr) (xs : List Stmt) → IsName x → IsPrintableExpr (numbered (i + 1) a.kind) → IsPrintableExpr (numbered (i + 1 + expr_nodes a.kind) b.kind) →
+for_prints : (i : ℕ) (x : NameBytes) (a b : Expr) (xs : List Stmt) → IsName x → IsPrintableExpr (numbered (i + 1) a.kind) → IsPrintableExpr (numbered (i + 1 + expr_nodes a.kind) b.kind) →
     IsPrintableList (numbered_list (i + 1 + expr_nodes a.kind + expr_nodes b.kind) xs) → IsPrintableStmt (numbered_stmt i (stmt.For x a b xs))
 for_prints i x a b xs n c h k = subst (λ (T : Type 0). T) (sym (ap IsPrintableStmt (numbered-For i x a b xs) ∙
     printable-For x (numbered_expr (i + 1) a) (numbered_expr (i + 1 + expr_nodes a.kind) b) (numbered_list (i + 1 + expr_nodes a.kind + expr_nodes b.kind) xs))) (n, c, h, k)
@@ -214,8 +216,8 @@ mutual
   expr_bare (Times n a m b) i = ap₂ (λ x y. Times (bare n) x (bare m) y) (expr_bare a (i + 1)) (expr_bare b (i + 1 + expr_nodes a))
 
   index_bare : (j : Index) (i : ℕ) → changed_index bare (numbered_index i j) ≡ changed_index bare j
-  index_bare (At n a) i = ap (λ b. At (bare n) b) (expr_bare a i)
-  index_bare (Pair n a m b) i = ap₂ (λ x y. Pair (bare n) x (bare m) y) (expr_bare a i) (expr_bare b (i + expr_nodes a))
+  index_bare (OneIndex n a) i = ap (λ b. OneIndex (bare n) b) (expr_bare a i)
+  index_bare (TwoIndexes n a m b) i = ap₂ (λ x y. TwoIndexes (bare n) x (bare m) y) (expr_bare a i) (expr_bare b (i + expr_nodes a))
 
 whole_bare : (e : Expr) (i : ℕ) → whole_expr bare (numbered_expr i e) ≡ whole_expr bare e
 whole_bare e i = ap (λ k. record { node = bare e.node; kind = k }) (expr_bare e.kind i)

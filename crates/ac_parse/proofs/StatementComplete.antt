@@ -11,11 +11,11 @@ use Rattle.ac_tree.specs.declared.token.Mark.TheVariants as mark
 use Rattle.ac_tree.specs.declared.token.Sign.TheVariants as sign
 use Rattle.ac_tree.specs.declared.token.Token.{Token}
 use Rattle.ac_tree.specs.Grammar as g
-use Rattle.ac_tree.specs.Grammar.{Tokens, Word, Disjunction, Sum, SpellsExpr, SpellsIndex, SpellsCond, SpellsStmt, SpellsBlock, name, keyword_at, sign_at, join, statement}
-use Rattle.ac_parse.specs.declared.condition.CondReading.{CondReading}
-use Rattle.ac_parse.specs.declared.condition.Test.{Test}
-use Rattle.ac_parse.specs.declared.expression.Operand.{Operand}
-use Rattle.ac_parse.specs.declared.expression.Reading.{Reading}
+use Rattle.ac_tree.specs.Grammar.{Tokens, NameBytes, Disjunction, Sum, SpellsExpr, SpellsIndex, SpellsCond, SpellsStmt, SpellsBlock, name, keyword_at, sign_at, join, statement}
+use Rattle.ac_expression_reader.specs.declared.condition.CondReading.{CondReading}
+use Rattle.ac_expression_reader.specs.declared.condition.Test.{Test}
+use Rattle.ac_expression_reader.specs.declared.expression.Operand.{Operand}
+use Rattle.ac_expression_reader.specs.declared.expression.Reading.{Reading}
 use Rattle.ac_parse.specs.declared.statement.CondUse.{CondUse}
 use Rattle.ac_parse.specs.declared.statement.CondUse.TheVariants as test
 use Rattle.ac_parse.specs.declared.statement.ExprUse.{ExprUse}
@@ -24,14 +24,14 @@ use Rattle.ac_parse.specs.declared.statement.OpenStmt.TheVariants.{Yes, No, ForB
 use Rattle.ac_parse.specs.declared.statement.StmtReading.{StmtReading}
 use Rattle.ac_parse.specs.declared.statement.StmtState.{StmtState}
 use Rattle.ac_parse.specs.declared.statement.StmtState.TheVariants.{Between, Named, Indexed, Expression, Condition, For, ForName, Use, UseName, UseAs, UseRole, Skip}
-use Rattle.ac_parse.specs.ReadCondition as condition
-use Rattle.ac_parse.specs.ReadExpression as expression
+use Rattle.ac_expression_reader.specs.ReadCondition as condition
+use Rattle.ac_expression_reader.specs.ReadExpression as expression
 use Rattle.ac_parse.specs.ReadStatement.{Stack, Block, reading, start, ended, frame, opened, evaluating, testing, behind, tested, step, value, runs}
-use Rattle.ac_parse.proofs.ConditionComplete.{condition_reached}
-use Rattle.ac_parse.proofs.ConditionEnds.{condition_own}
-use Rattle.ac_parse.proofs.ExpressionComplete.{expression_reached}
-use Rattle.ac_parse.proofs.ExpressionEnds.{own, closed}
-use Rattle.ac_parse.proofs.Paths.{IsPath, Reaches, reached, path_runs, path_within, step_runs, inside_taken, inside_passed}
+use Rattle.ac_expression_reader.proofs.ConditionComplete.{condition_reached}
+use Rattle.ac_expression_reader.proofs.ConditionEnds.{condition_own}
+use Rattle.ac_expression_reader.proofs.ExpressionComplete.{expression_reached}
+use Rattle.ac_expression_reader.proofs.ExpressionEnds.{own, closed}
+use Rattle.ac_expression_reader.proofs.Paths.{IsPath, Reaches, reached, path_runs, path_within, step_runs, inside_taken, inside_passed}
 
 abbrev pub run : Stack → Block → StmtState → Tokens → Option Block
 run k xs s ts = runs (reading k xs s) ts
@@ -74,7 +74,7 @@ three_parts ts us vs rest t l e = simp append_assoc
 abbrev Moves : Stmt → Tokens → Type 0
 Moves a ts = (k : Stack) (xs : Block) (rest : Tokens) → run k xs Between (ts ++ rest) ≡ run k (xs ++ a ∷ []) Between rest
 
-index_moves : {t : Span} {i : Index} {ts : Tokens} → SpellsIndex t i ts → (k : Stack) (xs : Block) (x : Word) (s : Span) (rest : Tokens) →
+index_moves : {t : Span} {i : Index} {ts : Tokens} → SpellsIndex t i ts → (k : Stack) (xs : Block) (x : NameBytes) (s : Span) (rest : Tokens) →
     run k xs (Named x s) (ts ++ rest) ≡ run k xs (Indexed x s i) rest
 index_moves (g.one {s = v} {a = a} {ts = ts} o c d) = λ k xs x s rest.
     ap (run k xs (Expression (First x s) expression.start)) (append_assoc ts (sign_at sign.CloseBracket c ∷ []) rest)

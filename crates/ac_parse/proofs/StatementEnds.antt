@@ -9,11 +9,11 @@ use Rattle.ac_tree.specs.declared.token.Mark.{Mark}
 use Rattle.ac_tree.specs.declared.token.Mark.TheVariants as mark
 use Rattle.ac_tree.specs.declared.token.Sign.TheVariants as sign
 use Rattle.ac_tree.specs.declared.token.Token.{Token}
-use Rattle.ac_tree.specs.Grammar.{Tokens, Word, keyword_at, sign_at, name, join}
-use Rattle.ac_parse.specs.declared.condition.CondReading.{CondReading}
-use Rattle.ac_parse.specs.declared.condition.Test.{Test}
-use Rattle.ac_parse.specs.declared.expression.Operand.{Operand}
-use Rattle.ac_parse.specs.declared.expression.Reading.{Reading}
+use Rattle.ac_tree.specs.Grammar.{Tokens, NameBytes, keyword_at, sign_at, name, join}
+use Rattle.ac_expression_reader.specs.declared.condition.CondReading.{CondReading}
+use Rattle.ac_expression_reader.specs.declared.condition.Test.{Test}
+use Rattle.ac_expression_reader.specs.declared.expression.Operand.{Operand}
+use Rattle.ac_expression_reader.specs.declared.expression.Reading.{Reading}
 use Rattle.ac_parse.specs.declared.statement.CondUse.{CondUse}
 use Rattle.ac_parse.specs.declared.statement.CondUse.TheVariants as test
 use Rattle.ac_parse.specs.declared.statement.ExprUse.{ExprUse}
@@ -22,13 +22,13 @@ use Rattle.ac_parse.specs.declared.statement.OpenStmt.TheVariants.{Yes, No, ForB
 use Rattle.ac_parse.specs.declared.statement.StmtReading.{StmtReading}
 use Rattle.ac_parse.specs.declared.statement.StmtState.{StmtState}
 use Rattle.ac_parse.specs.declared.statement.StmtState.TheVariants.{Between, Named, Indexed, Expression, Condition, For, ForName, Use, UseName, UseAs, UseRole, Skip}
-use Rattle.ac_parse.specs.ReadCondition as condition
-use Rattle.ac_parse.specs.ReadExpression as expression
+use Rattle.ac_expression_reader.specs.ReadCondition as condition
+use Rattle.ac_expression_reader.specs.ReadExpression as expression
 use Rattle.ac_parse.specs.ReadStatement.{Stack, Block, reading, ended, opened, evaluating, testing, behind, tested, between, ending, step, step_at, value, value_at, runs, is_own, is_open}
-use Rattle.ac_parse.specs.Steps.{inside, passed}
-use Rattle.ac_parse.proofs.ConditionEnds.{condition_ends, none_passed}
-use Rattle.ac_parse.proofs.ExpressionEnds.{nowhere, expression_ends}
-use Rattle.ac_parse.proofs.Paths.{Reaches, reached}
+use Rattle.ac_expression_reader.specs.Steps.{inside, passed}
+use Rattle.ac_expression_reader.proofs.ConditionEnds.{condition_ends, none_passed}
+use Rattle.ac_expression_reader.proofs.ExpressionEnds.{nowhere, expression_ends}
+use Rattle.ac_expression_reader.proofs.Paths.{Reaches, reached}
 use Rattle.ac_parse.proofs.StatementComplete.{run, expression_leads, condition_leads}
 
 record Completed (m : StmtReading) : Type 0 where
@@ -62,10 +62,10 @@ between_ends (f ∷ k) xs = by (reading (f ∷ k) xs Between) _ (keyword_at keyw
 semicolon : Token
 semicolon = sign_at sign.Semicolon nowhere
 
-cell_ends : (k : Stack) (xs : Block) (x : Word) (s : Span) (i : Index) (m : Reading) → Completed (evaluating k xs (Cell x s i) m)
+cell_ends : (k : Stack) (xs : Block) (x : NameBytes) (s : Span) (i : Index) (m : Reading) → Completed (evaluating k xs (Cell x s i) m)
 cell_ends k xs x s i m = by_expression k xs (Cell x s i) m (sign_at sign.Semicolon nowhere) refl (λ a. (ended k xs (join s nowhere) (stmt.Put x i a.expr), refl, between_ends k _))
 
-indexed_ends : (k : Stack) (xs : Block) (x : Word) (s : Span) (i : Index) → Completed (reading k xs (Indexed x s i))
+indexed_ends : (k : Stack) (xs : Block) (x : NameBytes) (s : Span) (i : Index) → Completed (reading k xs (Indexed x s i))
 indexed_ends k xs x s i = by (reading k xs (Indexed x s i)) (evaluating k xs (Cell x s i) expression.start) (sign_at sign.Assign nowhere) refl (cell_ends k xs x s i expression.start)
 
 use_completed : (k : Stack) (xs : Block) (u : ExprUse) (m : Reading) → Completed (evaluating k xs u m)

@@ -15,11 +15,11 @@ use Rattle.ac_tree.specs.declared.token.Mark.TheVariants as mark
 use Rattle.ac_tree.specs.declared.token.Sign.TheVariants as sign
 use Rattle.ac_tree.specs.declared.token.Token.{Token}
 use Rattle.ac_tree.specs.Grammar as g
-use Rattle.ac_tree.specs.Grammar.{Tokens, Word, Disjunction, Sum, SpellsExpr, SpellsIndex, SpellsCond, SpellsStmt, SpellsBlock, token, name, keyword_at, sign_at, join, statement}
-use Rattle.ac_parse.specs.declared.condition.CondReading.{CondReading}
-use Rattle.ac_parse.specs.declared.condition.Test.{Test}
-use Rattle.ac_parse.specs.declared.expression.Operand.{Operand}
-use Rattle.ac_parse.specs.declared.expression.Reading.{Reading}
+use Rattle.ac_tree.specs.Grammar.{Tokens, NameBytes, Disjunction, Sum, SpellsExpr, SpellsIndex, SpellsCond, SpellsStmt, SpellsBlock, token, name, keyword_at, sign_at, join, statement}
+use Rattle.ac_expression_reader.specs.declared.condition.CondReading.{CondReading}
+use Rattle.ac_expression_reader.specs.declared.condition.Test.{Test}
+use Rattle.ac_expression_reader.specs.declared.expression.Operand.{Operand}
+use Rattle.ac_expression_reader.specs.declared.expression.Reading.{Reading}
 use Rattle.ac_parse.specs.declared.statement.CondUse.{CondUse}
 use Rattle.ac_parse.specs.declared.statement.CondUse.TheVariants as test
 use Rattle.ac_parse.specs.declared.statement.ExprUse.{ExprUse}
@@ -29,12 +29,12 @@ use Rattle.ac_parse.specs.declared.statement.OpenStmt.TheVariants.{Yes, No, ForB
 use Rattle.ac_parse.specs.declared.statement.StmtReading.{StmtReading}
 use Rattle.ac_parse.specs.declared.statement.StmtState.{StmtState}
 use Rattle.ac_parse.specs.declared.statement.StmtState.TheVariants.{Between, Named, Indexed, Expression, Condition, For, ForName, Use, UseName, UseAs, UseRole, Skip}
-use Rattle.ac_parse.specs.ReadCondition as condition
-use Rattle.ac_parse.specs.ReadExpression as expression
+use Rattle.ac_expression_reader.specs.ReadCondition as condition
+use Rattle.ac_expression_reader.specs.ReadExpression as expression
 use Rattle.ac_parse.specs.ReadStatement.{Stack, Block, reading, start, ended, frame, opened, finished, ending, turned, turning, between, evaluating, testing, naming, indexing, behind, value_ends, first_ends, second_ends, cell_ends, low_ends, high_ends, tested, then_comes, do_comes, for_name, for_assign, use_name, use_as, use_role, use_ends, skip_ends, step, step_at, value, value_at}
-use Rattle.ac_parse.proofs.ConditionSound.{SpellsTest, condition_spelled}
-use Rattle.ac_parse.proofs.ExpressionSound.{◌⋯◌, Just, SpellsOperand, expression_spelled}
-use Rattle.ac_parse.proofs.Paths.{IsPath, path_more, inside_cases}
+use Rattle.ac_expression_reader.proofs.ConditionSound.{SpellsTest, condition_spelled}
+use Rattle.ac_expression_reader.proofs.ExpressionSound.{◌⋯◌, Just, SpellsOperand, expression_spelled}
+use Rattle.ac_expression_reader.proofs.Paths.{IsPath, path_more, inside_cases}
 
 -- what has been read, by each part of the state
 abbrev pub InOpen : OpenStmt → Tokens → Type 0
@@ -155,12 +155,12 @@ between_read k xs s _ ks bs i b = tt
 evaluates_read : (k : Stack) (xs : Block) (u : ExprUse) (ks bs us : Tokens) → InStack k ks → SpellsBlock xs bs → InUse u us → Read k xs (Expression u expression.start) (ks ++ (bs ++ us))
 evaluates_read k xs u ks bs us i b h = (ks, bs ++ us, refl, i, (bs, us, refl, b, (us, [], sym (append-nil us), h, refl)))
 
-name_read : (k : Stack) (xs : Block) (x : Word) (s e : Span) (m : Mark) (ks bs us : Tokens) → InStack k ks → SpellsBlock xs bs → us ≡ name x s ∷ [] → After (naming k xs x s m) (ks ++ (bs ++ (us ++ token m e ∷ [])))
+name_read : (k : Stack) (xs : Block) (x : NameBytes) (s e : Span) (m : Mark) (ks bs us : Tokens) → InStack k ks → SpellsBlock xs bs → us ≡ name x s ∷ [] → After (naming k xs x s m) (ks ++ (bs ++ (us ++ token m e ∷ [])))
 name_read k xs x s e (mark.Sign sign.Assign) ks bs us i b h = evaluates_read k xs (Value x s) ks bs (us ++ sign_at sign.Assign e ∷ []) i b (e, ap (λ ts. ts ++ sign_at sign.Assign e ∷ []) h)
 name_read k xs x s e (mark.Sign sign.OpenBracket) ks bs us i b h = evaluates_read k xs (First x s) ks bs (us ++ sign_at sign.OpenBracket e ∷ []) i b (e, ap (λ ts. ts ++ sign_at sign.OpenBracket e ∷ []) h)
 name_read k xs x s e _ ks bs us i b h = tt
 
-index_read : (k : Stack) (xs : Block) (x : Word) (s e : Span) (j : Index) (m : Mark) (ks bs us : Tokens) → InStack k ks → SpellsBlock xs bs → InState (Indexed x s j) us →
+index_read : (k : Stack) (xs : Block) (x : NameBytes) (s e : Span) (j : Index) (m : Mark) (ks bs us : Tokens) → InStack k ks → SpellsBlock xs bs → InState (Indexed x s j) us →
     After (indexing k xs x s j m) (ks ++ (bs ++ (us ++ token m e ∷ [])))
 index_read k xs x s e j (mark.Sign sign.Assign) ks bs us i b h =
     evaluates_read k xs (Cell x s j) ks bs (us ++ sign_at sign.Assign e ∷ []) i b (e, h.0, h.1, ap (λ ts. ts ++ sign_at sign.Assign e ∷ []) h.2, h.3)
@@ -170,13 +170,13 @@ index_read k xs x s e j _ ks bs us i b h = tt
 abbrev Behind : Option StmtReading → (m : Mark) (e : Span) (ks bs us vs : Tokens) → Type 0
 Behind o m e ks bs us vs = After o (ks ++ (bs ++ (us ++ (vs ++ token m e ∷ []))))
 
-value_read : (k : Stack) (xs : Block) (x : Word) (s : Span) (a : Operand) (e : Span) (m : Mark) (ks bs us vs : Tokens) → InStack k ks → SpellsBlock xs bs → InUse (Value x s) us → SpellsOperand Sum a vs →
+value_read : (k : Stack) (xs : Block) (x : NameBytes) (s : Span) (a : Operand) (e : Span) (m : Mark) (ks bs us vs : Tokens) → InStack k ks → SpellsBlock xs bs → InUse (Value x s) us → SpellsOperand Sum a vs →
     Behind (value_ends k xs x s a e m) m e ks bs us vs
 value_read k xs x s a e (mark.Sign sign.Semicolon) ks bs us vs i b h d =
     whole_read k xs (join s e) (stmt.Set x a.expr) ks bs (us ++ (vs ++ sign_at sign.Semicolon e ∷ [])) i b (rw h.1 (g.set x s h.0 e d))
 value_read k xs x s a e _ ks bs us vs i b h d = tt
 
-first_read : (k : Stack) (xs : Block) (x : Word) (s : Span) (a : Operand) (e : Span) (m : Mark) (ks bs us vs : Tokens) → InStack k ks → SpellsBlock xs bs → InUse (First x s) us → SpellsOperand Sum a vs →
+first_read : (k : Stack) (xs : Block) (x : NameBytes) (s : Span) (a : Operand) (e : Span) (m : Mark) (ks bs us vs : Tokens) → InStack k ks → SpellsBlock xs bs → InUse (First x s) us → SpellsOperand Sum a vs →
     Behind (first_ends k xs x s a m) m e ks bs us vs
 first_read k xs x s a e (mark.Sign sign.CloseBracket) ks bs us vs i b h d =
     let ts = sign_at sign.OpenBracket h.0 ∷ (vs ++ sign_at sign.CloseBracket e ∷ []) in (
@@ -196,7 +196,7 @@ first_read k xs x s a e (mark.Sign sign.Comma) ks bs us vs i b h d =
     evaluates_read k xs (Second x s a.expr) ks bs (us ++ (vs ++ sign_at sign.Comma e ∷ [])) i b (h.0, e, a.span, vs, ap (λ ws. ws ++ (vs ++ sign_at sign.Comma e ∷ [])) h.1, d)
 first_read k xs x s a e _ ks bs us vs i b h d = tt
 
-second_read : (k : Stack) (xs : Block) (x : Word) (s : Span) (c : Expr) (a : Operand) (e : Span) (m : Mark) (ks bs us vs : Tokens) → InStack k ks → SpellsBlock xs bs → InUse (Second x s c) us → SpellsOperand Sum a vs →
+second_read : (k : Stack) (xs : Block) (x : NameBytes) (s : Span) (c : Expr) (a : Operand) (e : Span) (m : Mark) (ks bs us vs : Tokens) → InStack k ks → SpellsBlock xs bs → InUse (Second x s c) us → SpellsOperand Sum a vs →
     Behind (second_ends k xs x s c a m) m e ks bs us vs
 second_read k xs x s c a e (mark.Sign sign.CloseBracket) ks bs us vs i b h d =
     let ts = sign_at sign.OpenBracket h.0 ∷ (h.3 ++ sign_at sign.Comma h.1 ∷ (vs ++ sign_at sign.CloseBracket e ∷ [])) in (
@@ -214,20 +214,20 @@ second_read k xs x s c a e (mark.Sign sign.CloseBracket) ks bs us vs i b h d =
     )
 second_read k xs x s c a e _ ks bs us vs i b h d = tt
 
-cell_read : (k : Stack) (xs : Block) (x : Word) (s : Span) (j : Index) (a : Operand) (e : Span) (m : Mark) (ks bs us vs : Tokens) → InStack k ks → SpellsBlock xs bs → InUse (Cell x s j) us → SpellsOperand Sum a vs →
+cell_read : (k : Stack) (xs : Block) (x : NameBytes) (s : Span) (j : Index) (a : Operand) (e : Span) (m : Mark) (ks bs us vs : Tokens) → InStack k ks → SpellsBlock xs bs → InUse (Cell x s j) us → SpellsOperand Sum a vs →
     Behind (cell_ends k xs x s j a e m) m e ks bs us vs
 cell_read k xs x s j a e (mark.Sign sign.Semicolon) ks bs us vs i b h d =
     whole_read k xs (join s e) (stmt.Put x j a.expr) ks bs (us ++ (vs ++ sign_at sign.Semicolon e ∷ [])) i b
     (subst (λ ts. SpellsStmt (statement (join s e) (stmt.Put x j a.expr)) ts) (rw h.3 (simp append_assoc)) (g.put x s h.0 e h.4 d))
 cell_read k xs x s j a e _ ks bs us vs i b h d = tt
 
-low_read : (k : Stack) (xs : Block) (s : Span) (x : Word) (a : Operand) (e : Span) (m : Mark) (ks bs us vs : Tokens) → InStack k ks → SpellsBlock xs bs → InUse (Low s x) us → SpellsOperand Sum a vs →
+low_read : (k : Stack) (xs : Block) (s : Span) (x : NameBytes) (a : Operand) (e : Span) (m : Mark) (ks bs us vs : Tokens) → InStack k ks → SpellsBlock xs bs → InUse (Low s x) us → SpellsOperand Sum a vs →
     Behind (low_ends k xs s x a m) m e ks bs us vs
 low_read k xs s x a e (mark.Keyword keyword.To) ks bs us vs i b h d =
     evaluates_read k xs (High s x a.expr) ks bs (us ++ (vs ++ keyword_at keyword.To e ∷ [])) i b (h.0, h.1, e, a.span, vs, ap (λ ws. ws ++ (vs ++ keyword_at keyword.To e ∷ [])) h.2, d)
 low_read k xs s x a e _ ks bs us vs i b h d = tt
 
-high_read : (k : Stack) (xs : Block) (s : Span) (x : Word) (c : Expr) (a : Operand) (e : Span) (m : Mark) (ks bs us vs : Tokens) → InStack k ks → SpellsBlock xs bs → InUse (High s x c) us → SpellsOperand Sum a vs →
+high_read : (k : Stack) (xs : Block) (s : Span) (x : NameBytes) (c : Expr) (a : Operand) (e : Span) (m : Mark) (ks bs us vs : Tokens) → InStack k ks → SpellsBlock xs bs → InUse (High s x c) us → SpellsOperand Sum a vs →
     Behind (high_ends k xs s x c a m) m e ks bs us vs
 high_read k xs s x c a e (mark.Keyword keyword.Do) ks bs us vs i b h d =
     opens_read k xs (ForBody s x c a.expr) ks bs (us ++ (vs ++ keyword_at keyword.Do e ∷ [])) i b (h.0, h.1, h.2, e, h.3, a.span, h.4, vs, rw h.5 (simp append_assoc), h.6, d)
@@ -282,7 +282,7 @@ for_read : (k : Stack) (xs : Block) (s e : Span) (m : Mark) (ks bs us : Tokens) 
 for_read k xs s e (mark.Name x) ks bs us i b h = plain_read k xs (ForName s x) ks bs (us ++ name x e ∷ []) i b (e, ap (λ ws. ws ++ name x e ∷ []) h)
 for_read k xs s e _ ks bs us i b h = tt
 
-for_name_read : (k : Stack) (xs : Block) (s : Span) (x : Word) (e : Span) (m : Mark) (ks bs us : Tokens) → InStack k ks → SpellsBlock xs bs → InState (ForName s x) us → After (for_assign k xs s x m) (ks ++ (bs ++ (us ++ token m e ∷ [])))
+for_name_read : (k : Stack) (xs : Block) (s : Span) (x : NameBytes) (e : Span) (m : Mark) (ks bs us : Tokens) → InStack k ks → SpellsBlock xs bs → InState (ForName s x) us → After (for_assign k xs s x m) (ks ++ (bs ++ (us ++ token m e ∷ [])))
 for_name_read k xs s x e (mark.Sign sign.Assign) ks bs us i b h = evaluates_read k xs (Low s x) ks bs (us ++ sign_at sign.Assign e ∷ []) i b (h.0, e, ap (λ ws. ws ++ sign_at sign.Assign e ∷ []) h.1)
 for_name_read k xs s x e _ ks bs us i b h = tt
 
@@ -290,15 +290,15 @@ use_read : (k : Stack) (xs : Block) (s e : Span) (m : Mark) (ks bs us : Tokens) 
 use_read k xs s e (mark.Name x) ks bs us i b h = plain_read k xs (UseName s x) ks bs (us ++ name x e ∷ []) i b (e, ap (λ ws. ws ++ name x e ∷ []) h)
 use_read k xs s e _ ks bs us i b h = tt
 
-use_name_read : (k : Stack) (xs : Block) (s : Span) (x : Word) (e : Span) (m : Mark) (ks bs us : Tokens) → InStack k ks → SpellsBlock xs bs → InState (UseName s x) us → After (use_as k xs s x m) (ks ++ (bs ++ (us ++ token m e ∷ [])))
+use_name_read : (k : Stack) (xs : Block) (s : Span) (x : NameBytes) (e : Span) (m : Mark) (ks bs us : Tokens) → InStack k ks → SpellsBlock xs bs → InState (UseName s x) us → After (use_as k xs s x m) (ks ++ (bs ++ (us ++ token m e ∷ [])))
 use_name_read k xs s x e (mark.Keyword keyword.As) ks bs us i b h = plain_read k xs (UseAs s x) ks bs (us ++ keyword_at keyword.As e ∷ []) i b (h.0, e, ap (λ ws. ws ++ keyword_at keyword.As e ∷ []) h.1)
 use_name_read k xs s x e _ ks bs us i b h = tt
 
-use_as_read : (k : Stack) (xs : Block) (s : Span) (x : Word) (e : Span) (m : Mark) (ks bs us : Tokens) → InStack k ks → SpellsBlock xs bs → InState (UseAs s x) us → After (use_role k xs s x m) (ks ++ (bs ++ (us ++ token m e ∷ [])))
+use_as_read : (k : Stack) (xs : Block) (s : Span) (x : NameBytes) (e : Span) (m : Mark) (ks bs us : Tokens) → InStack k ks → SpellsBlock xs bs → InState (UseAs s x) us → After (use_role k xs s x m) (ks ++ (bs ++ (us ++ token m e ∷ [])))
 use_as_read k xs s x e (mark.Name y) ks bs us i b h = plain_read k xs (UseRole s x y) ks bs (us ++ name y e ∷ []) i b (h.0, h.1, e, ap (λ ws. ws ++ name y e ∷ []) h.2)
 use_as_read k xs s x e _ ks bs us i b h = tt
 
-use_role_read : (k : Stack) (xs : Block) (s : Span) (x y : Word) (e : Span) (m : Mark) (ks bs us : Tokens) → InStack k ks → SpellsBlock xs bs → InState (UseRole s x y) us → After (use_ends k xs s x y e m) (ks ++ (bs ++ (us ++ token m e ∷ [])))
+use_role_read : (k : Stack) (xs : Block) (s : Span) (x y : NameBytes) (e : Span) (m : Mark) (ks bs us : Tokens) → InStack k ks → SpellsBlock xs bs → InState (UseRole s x y) us → After (use_ends k xs s x y e m) (ks ++ (bs ++ (us ++ token m e ∷ [])))
 use_role_read k xs s x y e (mark.Sign sign.Semicolon) ks bs us i b h =
     whole_read k xs (join s e) (stmt.Hand x y) ks bs (us ++ sign_at sign.Semicolon e ∷ []) i b (rw h.3 (g.hand x y s h.0 h.1 h.2 e))
 use_role_read k xs s x y e _ ks bs us i b h = tt

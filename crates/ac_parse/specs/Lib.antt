@@ -1,16 +1,7 @@
 pub mod Opened
-pub mod Steps
-pub mod ReadExpression
-pub mod ReadCondition
-pub mod TokenFaults
-pub mod Pieces
 pub mod ReadStatement
 pub mod ReadProgram
 pub mod Limits
 pub mod ReadTokens
 pub mod Refusals
-pub mod Numbers
 pub mod Parsing
-pub mod Printing
-pub mod Printable
-pub mod Spans

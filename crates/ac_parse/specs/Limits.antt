@@ -1,5 +1,7 @@
 -- What is counted while a text is read: open constructs, and operators that stand in one place.
 use Rattle.std.specs.Prelude.{◌≡◌, ℕ, ◌+◌, ◌-◌, ◌≤◌, ◌++◌, fold}
+use Rattle.ac_tree.specs.declared.limit.LimitKind.TheVariants as limit
+use Rattle.ac_tree.specs.Limits.{limit_of}
 use Rattle.ac_tree.specs.declared.token.Keyword.TheVariants as keyword
 use Rattle.ac_tree.specs.declared.token.Mark.{Mark}
 use Rattle.ac_tree.specs.declared.token.Mark.TheVariants as mark
@@ -43,6 +45,6 @@ nesting_of ts = fold (λ n t. nested n t.mark) 0 ts
 abbrev pub operators_of : Tokens → ℕ
 operators_of ts = fold (λ n t. operated n t.mark) 0 ts
 
--- at each token at most 64 constructs are open and at most 256 operators stand in one place
+-- at each token the constructs that are open and the operators that stand in one place are within their limits
 abbrev pub StaysWithin : Tokens → Type 0
-StaysWithin ts = (before after : Tokens) → ts ≡ before ++ after → (nesting_of before ≤ 64) × (operators_of before ≤ 256)
+StaysWithin ts = (before after : Tokens) → ts ≡ before ++ after → (nesting_of before ≤ limit_of limit.Nesting) × (operators_of before ≤ limit_of limit.Operators)

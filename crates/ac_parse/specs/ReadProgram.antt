@@ -16,7 +16,7 @@ use Rattle.ac_tree.specs.declared.token.Mark.{Mark}
 use Rattle.ac_tree.specs.declared.token.Mark.TheVariants as mark
 use Rattle.ac_tree.specs.declared.token.Sign.TheVariants as sign
 use Rattle.ac_tree.specs.declared.token.Token.{Token}
-use Rattle.ac_tree.specs.Grammar.{Tokens, Word, node, declaration, join}
+use Rattle.ac_tree.specs.Grammar.{Tokens, NameBytes, node, declaration, join}
 use Rattle.ac_parse.specs.declared.declaration.DeclState.{DeclState}
 use Rattle.ac_parse.specs.declared.declaration.DeclState.TheVariants.{Between, Const, ConstName, Int, Minus, IntRead, Stored, StoredName, Extent as ExtentIn, ExtentRead, Extended}
 use Rattle.ac_parse.specs.declared.declaration.IntUse.{IntUse}
@@ -27,8 +27,8 @@ use Rattle.ac_parse.specs.declared.declaration.Storage.{Storage}
 use Rattle.ac_parse.specs.declared.declaration.Storage.TheVariants as storage
 use Rattle.ac_parse.specs.declared.statement.StmtReading.{StmtReading}
 use Rattle.ac_parse.specs.ReadStatement as statement
-use Rattle.ac_parse.specs.Steps as steps
-use Rattle.ac_parse.specs.Steps.{inside}
+use Rattle.ac_expression_reader.specs.Steps as steps
+use Rattle.ac_expression_reader.specs.Steps.{inside}
 
 abbrev pub start : ProgramReading
 start = Declarations [] Between
@@ -37,7 +37,7 @@ abbrev pub declaring : List Item → DeclState → Option ProgramReading
 declaring ds s = Some (Declarations ds s)
 
 -- a declaration is whole
-abbrev pub declared_ : List Item → Span → Word → ItemKind → Option ProgramReading
+abbrev pub declared_ : List Item → Span → NameBytes → ItemKind → Option ProgramReading
 declared_ ds s x k = declaring (ds ++ declaration s x k ∷ []) Between
 
 abbrev pub between : List Item → Span → Mark → Option ProgramReading
@@ -51,7 +51,7 @@ abbrev pub const_name : List Item → Span → Mark → Option ProgramReading
 const_name ds s (mark.Name x) = declaring ds (ConstName s x)
 const_name ds s _ = None
 
-abbrev pub const_equal : List Item → Span → Word → Mark → Option ProgramReading
+abbrev pub const_equal : List Item → Span → NameBytes → Mark → Option ProgramReading
 const_equal ds s x (mark.Sign sign.Equal) = declaring ds (Int (Value s x))
 const_equal ds s x _ = None
 
@@ -69,15 +69,15 @@ input_kind None low high = item.InputScalar low high
 input_kind (Some a) low high = item.InputArray a low high
 
 -- the token behind a number, by what the number is for
-abbrev pub const_ends : List Item → Span → Word → ℤ → Span → Mark → Option ProgramReading
+abbrev pub const_ends : List Item → Span → NameBytes → ℤ → Span → Mark → Option ProgramReading
 const_ends ds s x k e (mark.Sign sign.Semicolon) = declared_ ds (join s e) x (item.Const k)
 const_ends ds s x k e _ = None
 
-abbrev pub low_ends : List Item → Span → Word → Option Extents → ℤ → Mark → Option ProgramReading
+abbrev pub low_ends : List Item → Span → NameBytes → Option Extents → ℤ → Mark → Option ProgramReading
 low_ends ds s x a k (mark.Sign sign.DotDot) = declaring ds (Int (High s x a k))
 low_ends ds s x a k _ = None
 
-abbrev pub high_ends : List Item → Span → Word → Option Extents → ℤ → ℤ → Span → Mark → Option ProgramReading
+abbrev pub high_ends : List Item → Span → NameBytes → Option Extents → ℤ → ℤ → Span → Mark → Option ProgramReading
 high_ends ds s x a low k e (mark.Sign sign.Semicolon) = declared_ ds (join s e) x (input_kind a low k)
 high_ends ds s x a low k e _ = None
 
@@ -91,7 +91,7 @@ stored_name ds w s (mark.Name x) = declaring ds (StoredName w s x)
 stored_name ds w s _ = None
 
 -- behind a name, or its extents
-abbrev pub input_goes_on : List Item → Span → Word → Option Extents → Mark → Option ProgramReading
+abbrev pub input_goes_on : List Item → Span → NameBytes → Option Extents → Mark → Option ProgramReading
 input_goes_on ds s x a (mark.Sign sign.Colon) = declaring ds (Int (Low s x a))
 input_goes_on ds s x a _ = None
 
@@ -99,19 +99,19 @@ abbrev pub var_kind : Option Extents → ItemKind
 var_kind None = item.VarScalar
 var_kind (Some a) = item.VarArray a
 
-abbrev pub var_ends : List Item → Span → Word → Option Extents → Span → Mark → Option ProgramReading
+abbrev pub var_ends : List Item → Span → NameBytes → Option Extents → Span → Mark → Option ProgramReading
 var_ends ds s x a e (mark.Sign sign.Semicolon) = declared_ ds (join s e) x (var_kind a)
 var_ends ds s x a e _ = None
 
-abbrev pub sized : List Item → Storage → Span → Word → Option Extents → Span → Mark → Option ProgramReading
+abbrev pub sized : List Item → Storage → Span → NameBytes → Option Extents → Span → Mark → Option ProgramReading
 sized ds storage.Input s x a e m = input_goes_on ds s x a m
 sized ds storage.Var s x a e m = var_ends ds s x a e m
 
-abbrev pub named : List Item → Storage → Span → Word → Span → Mark → Option ProgramReading
+abbrev pub named : List Item → Storage → Span → NameBytes → Span → Mark → Option ProgramReading
 named ds w s x e (mark.Sign sign.OpenBracket) = declaring ds (ExtentIn w s x None)
 named ds w s x e m = sized ds w s x None e m
 
-abbrev pub extent_comes : List Item → Storage → Span → Word → Option Extent → Mark → Option ProgramReading
+abbrev pub extent_comes : List Item → Storage → Span → NameBytes → Option Extent → Mark → Option ProgramReading
 extent_comes ds w s x f (mark.Literal n) = declaring ds (ExtentRead w s x f (extent.Lit n))
 extent_comes ds w s x f (mark.Name y) = declaring ds (ExtentRead w s x f (extent.Named y))
 extent_comes ds w s x f _ = None
@@ -120,11 +120,11 @@ abbrev pub extents_of : Option Extent → Extent → Extents
 extents_of None a = extents.One a
 extents_of (Some f) a = extents.Two f a
 
-abbrev pub next_extent : List Item → Storage → Span → Word → Option Extent → Extent → Option ProgramReading
+abbrev pub next_extent : List Item → Storage → Span → NameBytes → Option Extent → Extent → Option ProgramReading
 next_extent ds w s x None a = declaring ds (ExtentIn w s x (Some a))
 next_extent ds w s x (Some f) a = None
 
-abbrev pub extent_ends : List Item → Storage → Span → Word → Option Extent → Extent → Mark → Option ProgramReading
+abbrev pub extent_ends : List Item → Storage → Span → NameBytes → Option Extent → Extent → Mark → Option ProgramReading
 extent_ends ds w s x f a (mark.Sign sign.CloseBracket) = declaring ds (Extended w s x (extents_of f a))
 extent_ends ds w s x f a (mark.Sign sign.Comma) = next_extent ds w s x f a
 extent_ends ds w s x f a _ = None

@@ -14,11 +14,11 @@ use Rattle.ac_tree.specs.declared.token.Mark.{Mark}
 use Rattle.ac_tree.specs.declared.token.Mark.TheVariants as mark
 use Rattle.ac_tree.specs.declared.token.Sign.TheVariants as sign
 use Rattle.ac_tree.specs.declared.token.Token.{Token}
-use Rattle.ac_tree.specs.Grammar.{Tokens, Word, statement, join}
-use Rattle.ac_parse.specs.declared.condition.CondReading.{CondReading}
-use Rattle.ac_parse.specs.declared.condition.Test.{Test}
-use Rattle.ac_parse.specs.declared.expression.Operand.{Operand}
-use Rattle.ac_parse.specs.declared.expression.Reading.{Reading}
+use Rattle.ac_tree.specs.Grammar.{Tokens, NameBytes, statement, join}
+use Rattle.ac_expression_reader.specs.declared.condition.CondReading.{CondReading}
+use Rattle.ac_expression_reader.specs.declared.condition.Test.{Test}
+use Rattle.ac_expression_reader.specs.declared.expression.Operand.{Operand}
+use Rattle.ac_expression_reader.specs.declared.expression.Reading.{Reading}
 use Rattle.ac_parse.specs.declared.statement.CondUse.{CondUse}
 use Rattle.ac_parse.specs.declared.statement.CondUse.TheVariants as test
 use Rattle.ac_parse.specs.declared.statement.ExprUse.{ExprUse}
@@ -29,10 +29,10 @@ use Rattle.ac_parse.specs.declared.statement.OpenStmt.TheVariants.{Yes, No, ForB
 use Rattle.ac_parse.specs.declared.statement.StmtReading.{StmtReading}
 use Rattle.ac_parse.specs.declared.statement.StmtState.{StmtState}
 use Rattle.ac_parse.specs.declared.statement.StmtState.TheVariants.{Between, Named, Indexed, Expression, Condition, For, ForName, Use, UseName, UseAs, UseRole, Skip}
-use Rattle.ac_parse.specs.ReadCondition as condition
-use Rattle.ac_parse.specs.ReadExpression as expression
-use Rattle.ac_parse.specs.Steps as steps
-use Rattle.ac_parse.specs.Steps.{inside}
+use Rattle.ac_expression_reader.specs.ReadCondition as condition
+use Rattle.ac_expression_reader.specs.ReadExpression as expression
+use Rattle.ac_expression_reader.specs.Steps as steps
+use Rattle.ac_expression_reader.specs.Steps.{inside}
 
 abbrev pub Stack : Type 0
 Stack = List Frame
@@ -90,38 +90,38 @@ between k xs s _ = None
 abbrev pub evaluating : Stack → Block → ExprUse → Reading → StmtReading
 evaluating k xs u m = reading k xs (Expression u m)
 
-abbrev pub naming : Stack → Block → Word → Span → Mark → Option StmtReading
+abbrev pub naming : Stack → Block → NameBytes → Span → Mark → Option StmtReading
 naming k xs x s (mark.Sign sign.Assign) = Some (evaluating k xs (Value x s) expression.start)
 naming k xs x s (mark.Sign sign.OpenBracket) = Some (evaluating k xs (First x s) expression.start)
 naming k xs x s _ = None
 
-abbrev pub indexing : Stack → Block → Word → Span → Index → Mark → Option StmtReading
+abbrev pub indexing : Stack → Block → NameBytes → Span → Index → Mark → Option StmtReading
 indexing k xs x s i (mark.Sign sign.Assign) = Some (evaluating k xs (Cell x s i) expression.start)
 indexing k xs x s i _ = None
 
 -- the token behind an expression, by what the expression is for
-abbrev pub value_ends : Stack → Block → Word → Span → Operand → Span → Mark → Option StmtReading
+abbrev pub value_ends : Stack → Block → NameBytes → Span → Operand → Span → Mark → Option StmtReading
 value_ends k xs x s a e (mark.Sign sign.Semicolon) = Some (ended k xs (join s e) (stmt.Set x a.expr))
 value_ends k xs x s a e _ = None
 
-abbrev pub first_ends : Stack → Block → Word → Span → Operand → Mark → Option StmtReading
+abbrev pub first_ends : Stack → Block → NameBytes → Span → Operand → Mark → Option StmtReading
 first_ends k xs x s a (mark.Sign sign.CloseBracket) = Some (reading k xs (Indexed x s (index.One a.expr)))
 first_ends k xs x s a (mark.Sign sign.Comma) = Some (evaluating k xs (Second x s a.expr) expression.start)
 first_ends k xs x s a _ = None
 
-abbrev pub second_ends : Stack → Block → Word → Span → Expr → Operand → Mark → Option StmtReading
+abbrev pub second_ends : Stack → Block → NameBytes → Span → Expr → Operand → Mark → Option StmtReading
 second_ends k xs x s a b (mark.Sign sign.CloseBracket) = Some (reading k xs (Indexed x s (index.Two a b.expr)))
 second_ends k xs x s a b _ = None
 
-abbrev pub cell_ends : Stack → Block → Word → Span → Index → Operand → Span → Mark → Option StmtReading
+abbrev pub cell_ends : Stack → Block → NameBytes → Span → Index → Operand → Span → Mark → Option StmtReading
 cell_ends k xs x s i a e (mark.Sign sign.Semicolon) = Some (ended k xs (join s e) (stmt.Put x i a.expr))
 cell_ends k xs x s i a e _ = None
 
-abbrev pub low_ends : Stack → Block → Span → Word → Operand → Mark → Option StmtReading
+abbrev pub low_ends : Stack → Block → Span → NameBytes → Operand → Mark → Option StmtReading
 low_ends k xs s x a (mark.Keyword keyword.To) = Some (evaluating k xs (High s x a.expr) expression.start)
 low_ends k xs s x a _ = None
 
-abbrev pub high_ends : Stack → Block → Span → Word → Expr → Operand → Mark → Option StmtReading
+abbrev pub high_ends : Stack → Block → Span → NameBytes → Expr → Operand → Mark → Option StmtReading
 high_ends k xs s x a b (mark.Keyword keyword.Do) = Some (opened k xs (ForBody s x a b.expr))
 high_ends k xs s x a b _ = None
 
@@ -154,7 +154,7 @@ abbrev pub for_name : Stack → Block → Span → Mark → Option StmtReading
 for_name k xs s (mark.Name x) = Some (reading k xs (ForName s x))
 for_name k xs s _ = None
 
-abbrev pub for_assign : Stack → Block → Span → Word → Mark → Option StmtReading
+abbrev pub for_assign : Stack → Block → Span → NameBytes → Mark → Option StmtReading
 for_assign k xs s x (mark.Sign sign.Assign) = Some (evaluating k xs (Low s x) expression.start)
 for_assign k xs s x _ = None
 
@@ -162,15 +162,15 @@ abbrev pub use_name : Stack → Block → Span → Mark → Option StmtReading
 use_name k xs s (mark.Name x) = Some (reading k xs (UseName s x))
 use_name k xs s _ = None
 
-abbrev pub use_as : Stack → Block → Span → Word → Mark → Option StmtReading
+abbrev pub use_as : Stack → Block → Span → NameBytes → Mark → Option StmtReading
 use_as k xs s x (mark.Keyword keyword.As) = Some (reading k xs (UseAs s x))
 use_as k xs s x _ = None
 
-abbrev pub use_role : Stack → Block → Span → Word → Mark → Option StmtReading
+abbrev pub use_role : Stack → Block → Span → NameBytes → Mark → Option StmtReading
 use_role k xs s x (mark.Name y) = Some (reading k xs (UseRole s x y))
 use_role k xs s x _ = None
 
-abbrev pub use_ends : Stack → Block → Span → Word → Word → Span → Mark → Option StmtReading
+abbrev pub use_ends : Stack → Block → Span → NameBytes → NameBytes → Span → Mark → Option StmtReading
 use_ends k xs s x y e (mark.Sign sign.Semicolon) = Some (ended k xs (join s e) (stmt.Hand x y))
 use_ends k xs s x y e _ = None
 

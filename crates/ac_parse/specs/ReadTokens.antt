@@ -1,6 +1,8 @@
 -- Reading the tokens of a program, with its limits.
 -- No promise rests on this file: it says what the code keeps on the way.
 use Rattle.std.specs.Prelude.{ℕ, nat_lt, Bool, if◌then◌else◌, List, [], ◌∷◌, Option, Some, None, Result, Ok, Err}
+use Rattle.ac_tree.specs.declared.limit.LimitKind.TheVariants as limit
+use Rattle.ac_tree.specs.Limits.{limit_of}
 use Rattle.ac_tree.specs.declared.program.Program.{Program}
 use Rattle.ac_tree.specs.declared.token.Token.{Token}
 use Rattle.ac_tree.specs.Grammar.{Tokens}
@@ -18,8 +20,8 @@ ended n (Some p) = Ok p
 abbrev pub reads : ℕ → ProgramReading → (depth operators : ℕ) → Tokens → Result Program Refusal
 reads n m d o [] = ended n (value m)
 reads n m d o (t ∷ ts) =
-    if nat_lt 64 (nested d t.mark) then Err Nesting else
-    if nat_lt 256 (operated o t.mark) then Err Operators else
+    if nat_lt (limit_of limit.Nesting) (nested d t.mark) then Err Nesting else
+    if nat_lt (limit_of limit.Operators) (operated o t.mark) then Err Operators else
     elim (step m t) [ None ↦ Err (Unexpected t.span) | Some j ↦ reads n j (nested d t.mark) (operated o t.mark) ts ]
 
 abbrev pub read_all : ℕ → Tokens → Result Program Refusal

@@ -1,5 +1,7 @@
 -- Where reading stops: at the first token that passes a limit or at which no program continues.
 use Rattle.std.specs.Prelude.{◌≡◌, ℕ, ◌≤◌, ◌<◌, [], ◌∷◌, ◌++◌}
+use Rattle.ac_tree.specs.declared.limit.LimitKind.TheVariants as limit
+use Rattle.ac_tree.specs.Limits.{limit_of}
 use Rattle.ac_tree.specs.declared.node.Span.{Span}
 use Rattle.ac_tree.specs.declared.program.Program.{Program}
 use Rattle.ac_tree.specs.Grammar.{Tokens, SpellsProgram, Continues}
@@ -22,8 +24,8 @@ abbrev pub Refuses : ℕ → Tokens → Tokens → Refusal → Type 0
 Refuses n before [] Nesting = ⊥
 Refuses n before [] Operators = ⊥
 Refuses n before [] (Unexpected s) = (s ≡ next_span n []) × NoneGoesOn before []
-Refuses n before (t ∷ after) Nesting = 64 < nesting_of (before ++ t ∷ [])
-Refuses n before (t ∷ after) Operators = (nesting_of (before ++ t ∷ []) ≤ 64) × (256 < operators_of (before ++ t ∷ []))
+Refuses n before (t ∷ after) Nesting = limit_of limit.Nesting < nesting_of (before ++ t ∷ [])
+Refuses n before (t ∷ after) Operators = (nesting_of (before ++ t ∷ []) ≤ limit_of limit.Nesting) × (limit_of limit.Operators < operators_of (before ++ t ∷ []))
 Refuses n before (t ∷ after) (Unexpected s) = (s ≡ t.span) × NoneGoesOn before (t ∷ after) × StaysWithin (before ++ t ∷ [])
 
 -- the tokens of a text of n bytes are refused so: all before are read within the limits

@@ -1,11 +1,12 @@
+//! The machine that reads the tokens of a program forwards: its declarations, and its body by the machine of statements.
 ghost use Rattle.std.specs.Prelude.{◌≡◌, ◌≤◌, [], ◌∷◌, ◌++◌, ℤ, pos, neg_ℤ, IfOk, Some, None};
 ghost use Rattle.ac_tree.specs.Grammar.{declaration as declaration_of};
-ghost use Rattle.ac_parse.specs.TokenFaults.{IsWithinLimits};
+ghost use Rattle.ac_tokens.specs.TokenFaults.{IsWithinLimits};
 ghost use Rattle.ac_parse.specs.ReadProgram.{start as start_of, between, const_name, const_equal, int as int_of, negative as negative_of, input_kind as input_kind_of, const_ends, low_ends, high_ends, int_ends, stored_name, input_goes_on, var_kind as var_kind_of, var_ends, sized, named, extent_comes, extents_of as all_extents, next_extent, extent_ends, declare as declare_at, begin_of, program_of, body_ends, step as step_of, value as value_of};
 
-use crate::expression::{join, unnumbered};
 use crate::statement;
 use crate::statement::StmtReading;
+use ac_expression_reader::expression::{join, unnumbered};
 use ac_tree::{
     Extent, Extents, Item, ItemKind, Keyword, Mark, Name, Program, Sign, Span, Stmt, Token,
 };
@@ -13,7 +14,7 @@ use sqlite_items::Items;
 use std::alloc::{AllocError, Global};
 
 /// What has cells: an input or a variable.
-#[derive(Clone, Copy, Debug, PartialEq, Eq)]
+#[derive(Clone, Copy)]
 pub enum Storage {
     Input,
     Var,
@@ -132,7 +133,10 @@ fn step_int(done: Items<Item>, purpose: IntUse, token: &Token) -> Option<Program
     match &token.mark {
         Mark::Literal(number) => at(done, DeclState::IntRead(purpose, *number as i64)),
         Mark::Sign(Sign::Minus) => at(done, DeclState::Minus(purpose)),
-        _ => None,
+        _ => {
+            drop(purpose);
+            None
+        }
     }
 }
 
@@ -145,7 +149,10 @@ fn step_minus(done: Items<Item>, purpose: IntUse, token: &Token) -> Option<Progr
             let number = *number as i64;
             at(done, DeclState::IntRead(purpose, -number))
         }
-        _ => None,
+        _ => {
+            drop(purpose);
+            None
+        }
     }
 }
 
@@ -193,7 +200,10 @@ fn end_low(
             done,
             DeclState::Int(IntUse::High(start, name, extents, lo)),
         ),
-        _ => None,
+        _ => {
+            drop(extents);
+            None
+        }
     }
 }
 
@@ -215,7 +225,10 @@ fn end_high(
             name,
             input_kind(extents, lo, hi),
         ),
-        _ => Ok(None),
+        _ => {
+            drop(extents);
+            Ok(None)
+        }
     }
 }
 
@@ -274,7 +287,10 @@ fn end_input(
 {
     match &token.mark {
         Mark::Sign(Sign::Colon) => at(done, DeclState::Int(IntUse::Low(start, name, extents))),
-        _ => None,
+        _ => {
+            drop(extents);
+            None
+        }
     }
 }
 
@@ -289,7 +305,10 @@ fn end_var(
 {
     match &token.mark {
         Mark::Sign(Sign::Semicolon) => end(done, join(start, token.span), name, var_kind(extents)),
-        _ => Ok(None),
+        _ => {
+            drop(extents);
+            Ok(None)
+        }
     }
 }
 
@@ -344,14 +363,20 @@ fn step_extent(
             done,
             DeclState::ExtentRead(storage, start, name, first, Extent::Lit(*number)),
         )),
-        Mark::Name(other) => {
-            let other = other.clone()?;
-            Ok(at(
+        Mark::Name(other) => match other.clone() {
+            Ok(other) => Ok(at(
                 done,
                 DeclState::ExtentRead(storage, start, name, first, Extent::Named(other)),
-            ))
+            )),
+            Err(error) => {
+                drop(first);
+                Err(error)
+            }
+        },
+        _ => {
+            drop(first);
+            Ok(None)
         }
-        _ => Ok(None),
     }
 }
 
@@ -376,7 +401,11 @@ fn second_extent(
 {
     match before {
         None => at(done, DeclState::Extent(storage, start, name, Some(first))),
-        Some(_) => None,
+        Some(before) => {
+            drop(before);
+            drop(first);
+            None
+        }
     }
 }
 
@@ -398,7 +427,11 @@ fn step_extent_read(
             DeclState::Extended(storage, start, name, extents_of(first, last)),
         ),
         Mark::Sign(Sign::Comma) => second_extent(done, storage, start, name, first, last),
-        _ => None,
+        _ => {
+            drop(first);
+            drop(last);
+            None
+        }
     }
 }
 
@@ -477,7 +510,7 @@ fn step_body(
             (Some(body), Mark::Keyword(Keyword::End)) => Ok(Some(ProgramReading::Whole(whole(
                 items, begin, token.span, body,
             )))),
-            _ => Ok(None),
+            _other => Ok(None),
         }
     }
 }
@@ -496,7 +529,7 @@ pub fn step(
         ProgramReading::Body(items, begin, reading) => step_body(
             alloc, items, begin, reading, token,
         ),
-        ProgramReading::Whole(_) => Ok(None),
+        ProgramReading::Whole(_program) => Ok(None),
     }
 }
 
@@ -506,6 +539,6 @@ pub fn finish(reading: ProgramReading) -> Option<Program>
 {
     match reading {
         ProgramReading::Whole(program) => Some(program),
-        _ => None,
+        _other => None,
     }
 }

@@ -3,9 +3,9 @@
 ghost use Rattle.std.specs.Prelude.{◌≡◌, IfOk};
 ghost use Rattle.ac_parse.specs.ReadStatement.{for_name, for_assign, use_name, use_as, use_role, use_ends, skip_ends};
 
-use crate::expression::join;
-use crate::stack::Stack;
 use crate::statement::{ExprUse, Frame, StmtReading, StmtState, at, end, evaluate, made};
+use ac_expression_reader::expression::join;
+use ac_expression_reader::stack::Stack;
 use ac_tree::{Keyword, Mark, Name, Sign, Span, Stmt, StmtKind, Token};
 use sqlite_items::Items;
 use std::alloc::{AllocError, Global};

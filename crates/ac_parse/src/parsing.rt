@@ -1,16 +1,16 @@
+//! The program that bytes spell, or why they are refused.
 ghost use Rattle.std.specs.Prelude.{◌≡◌, ◌≤◌, ℕ, List, length, IfOk, IfErr};
-ghost use Rattle.ac_parse.specs.Parsing.{SpellsWithin, HasTokenFault, IsRefusedAfterCut, IsParseFault};
+ghost use Rattle.ac_tree.specs.Limits.{limit_of};
+ghost use Rattle.ac_parse.specs.Parsing.{IsShort, SpellsWithin, HasTokenFault, IsRefusedAfterCut, PassesLimit, IsParseFault};
 ghost use Rattle.ac_parse.specs.declared.parsing.ParseFault.TheVariants.{OutOfMemory};
 
-use crate::numbering::number;
-use crate::refusal::{Refusal, read};
-use crate::tokens::{TokenFault, tokenize, utf8_text};
+use crate::reading::read;
+use crate::refusal::Refusal;
+use ac_numbering::number;
+use ac_tokens::{TokenFault, tokenize, utf8_text};
 use ac_tree::{LimitKind, Program, Span, Token};
 use std::alloc::{AllocError, Global};
 use thiserror::Error;
-
-/// The greatest length of a program, in bytes.
-const BYTES: usize = 1_048_576;
 
 /// Why a text is no program, with the place. Of a limit `value` is the greatest number that is allowed.
 #[derive(Debug, Drop, Error)]
@@ -42,35 +42,33 @@ impl From<AllocError> for ParseFault {
     }
 }
 
+/// The refusal where a limit is passed.
+fn passed(which: LimitKind) -> ParseFault
+    ensures { (bytes : List ℕ) → PassesLimit bytes which (limit_of which) → IsParseFault bytes result }
+{
+    ParseFault::Limit {
+        which,
+        value: which.number(),
+    }
+}
+
 fn token_fault(fault: TokenFault) -> ParseFault
-    ensures { (bytes : List ℕ) → length bytes ≤ 1048576 → HasTokenFault bytes fault → IsParseFault bytes result }
+    ensures { (bytes : List ℕ) → IsShort bytes → HasTokenFault bytes fault → IsParseFault bytes result }
 {
     match fault {
         TokenFault::Token { at } => ParseFault::Token { at },
-        TokenFault::Literal { at: _ } => ParseFault::Limit {
-            which: LimitKind::Literal,
-            value: 1_000_000_000_000,
-        },
-        TokenFault::Name { at: _ } => ParseFault::Limit {
-            which: LimitKind::NameLength,
-            value: 32,
-        },
+        TokenFault::Literal { at: _ } => passed(LimitKind::Literal),
+        TokenFault::Name { at: _ } => passed(LimitKind::NameLength),
         TokenFault::OutOfMemory => ParseFault::OutOfMemory,
     }
 }
 
 fn refused(refusal: Refusal) -> ParseFault
-    ensures { (bytes : List ℕ) → length bytes ≤ 1048576 → IsRefusedAfterCut bytes refusal → IsParseFault bytes result }
+    ensures { (bytes : List ℕ) → IsShort bytes → IsRefusedAfterCut bytes refusal → IsParseFault bytes result }
 {
     match refusal {
-        Refusal::Nesting => ParseFault::Limit {
-            which: LimitKind::Nesting,
-            value: 64,
-        },
-        Refusal::Operators => ParseFault::Limit {
-            which: LimitKind::Operators,
-            value: 256,
-        },
+        Refusal::Nesting => passed(LimitKind::Nesting),
+        Refusal::Operators => passed(LimitKind::Operators),
         Refusal::Unexpected(span) => ParseFault::Unexpected { span },
     }
 }
@@ -83,11 +81,8 @@ pub fn parse(alloc: Global, bytes: &[u8]) -> Result<Program, ParseFault>
     ensures program { IfOk result (λ program. SpellsWithin bytes.now program) }
     ensures fault { IfErr result (λ fault. IsParseFault bytes.now fault) }
 {
-    if bytes.len() > BYTES {
-        return Err(ParseFault::Limit {
-            which: LimitKind::ProgramBytes,
-            value: 1_048_576,
-        });
+    if bytes.len() as u64 > LimitKind::ProgramBytes.number() {
+        return Err(passed(LimitKind::ProgramBytes));
     }
     let text = match utf8_text(bytes) {
         Ok(text) => text,
@@ -103,9 +98,6 @@ pub fn parse(alloc: Global, bytes: &[u8]) -> Result<Program, ParseFault>
     };
     match number(alloc, &tree)? {
         Some(program) => Ok(program),
-        None => Err(ParseFault::Limit {
-            which: LimitKind::Nodes,
-            value: 50_000,
-        }),
+        None => Err(passed(LimitKind::Nodes)),
     }
 }

@@ -1,14 +1,16 @@
+//! The machine that reads the tokens of statements forwards.
 ghost use Rattle.std.specs.Prelude.{◌≡◌, [], ◌∷◌, ◌++◌, IfOk, Some, None};
 ghost use Rattle.ac_tree.specs.Grammar.{statement as statement_of};
-ghost use Rattle.ac_parse.specs.Steps.{taken, passed};
-ghost use Rattle.ac_parse.specs.ReadExpression as expression_of;
-ghost use Rattle.ac_parse.specs.ReadCondition as condition_of;
+ghost use Rattle.ac_expression_reader.specs.Steps.{taken, passed};
+ghost use Rattle.ac_expression_reader.specs.ReadExpression as expression_of;
+ghost use Rattle.ac_expression_reader.specs.ReadCondition as condition_of;
 ghost use Rattle.ac_parse.specs.ReadStatement.{reading as reading_of, ended, opened, finished, ending, turned, turning, between, evaluating, testing, naming, indexing, value_ends, first_ends, second_ends, cell_ends, low_ends, high_ends, behind as behind_use, then_comes, do_comes, tested, step as step_of, step_at, value as value_of, value_at, is_open as is_open_of, is_own as is_own_mark, start as start_of};
 
-use crate::condition::{CondReading, Test};
-use crate::expression::{Operand, Reading, join, unnumbered};
-use crate::stack::Stack;
-use crate::{condition, expression, headers};
+use crate::headers;
+use ac_expression_reader::condition::{CondReading, Test};
+use ac_expression_reader::expression::{Operand, Reading, join, unnumbered};
+use ac_expression_reader::stack::Stack;
+use ac_expression_reader::{condition, expression};
 use ac_tree::{Cond, Expr, Index, Keyword, Mark, Name, Sign, Span, Stmt, StmtKind, Token};
 use sqlite_items::{Boxed, Items};
 use std::alloc::{AllocError, Global};
@@ -222,7 +224,10 @@ fn turn(
 {
     match within {
         OpenStmt::Yes(start, test) => open(alloc, stack, before, OpenStmt::No(start, test, done)),
-        _ => Ok(None),
+        other => {
+            drop(other);
+            Ok(None)
+        }
     }
 }
 
@@ -296,7 +301,10 @@ fn step_indexed(
 {
     match &token.mark {
         Mark::Sign(Sign::Assign) => evaluate(alloc, stack, done, ExprUse::Cell(name, start, index)),
-        _ => None,
+        _ => {
+            drop(index);
+            None
+        }
     }
 }
 
@@ -322,7 +330,10 @@ fn end_value(
                 },
             ),
         ),
-        _ => Ok(None),
+        _ => {
+            drop(x);
+            Ok(None)
+        }
     }
 }
 
@@ -348,16 +359,23 @@ fn end_first(
             done,
             ExprUse::Second(name, start, x.expr),
         )),
-        _ => Ok(None),
+        _ => {
+            drop(x);
+            Ok(None)
+        }
     }
 }
 
 fn index_two(alloc: Global, first: Expr, second: Expr) -> Result<Index, AllocError>
     ensures { IfOk result (λ r. r ≡ Index.Two first second) }
 {
-    let first = Boxed::new(alloc, first)?;
-    let second = Boxed::new(alloc, second)?;
-    Ok(Index::Two(first, second))
+    match Boxed::new(alloc, first) {
+        Ok(first) => Ok(Index::Two(first, Boxed::new(alloc, second)?)),
+        Err(error) => {
+            drop(second);
+            Err(error)
+        }
+    }
 }
 
 fn end_second(
@@ -377,7 +395,11 @@ fn end_second(
             let index = index_two(alloc, first, x.expr)?;
             Ok(at(stack, done, StmtState::Indexed(name, start, index)))
         }
-        _ => Ok(None),
+        _ => {
+            drop(first);
+            drop(x);
+            Ok(None)
+        }
     }
 }
 
@@ -405,7 +427,11 @@ fn end_cell(
                 },
             ),
         ),
-        _ => Ok(None),
+        _ => {
+            drop(index);
+            drop(x);
+            Ok(None)
+        }
     }
 }
 
@@ -427,7 +453,10 @@ fn end_low(
             done,
             ExprUse::High(start, name, x.expr),
         ),
-        _ => None,
+        _ => {
+            drop(x);
+            None
+        }
     }
 }
 
@@ -450,7 +479,11 @@ fn end_high(
             done,
             OpenStmt::ForBody(start, name, low, x.expr),
         ),
-        _ => Ok(None),
+        _ => {
+            drop(low);
+            drop(x);
+            Ok(None)
+        }
     }
 }
 
@@ -488,9 +521,16 @@ fn step_within(
 ) -> Result<Option<StmtReading>, AllocError>
     ensures { IfOk result (λ r. r ≡ taken (evaluating stack done purpose) (expression_of.step reading token.now)) }
 {
-    match expression::step(alloc, reading, token)? {
-        None => Ok(None),
-        Some(reading) => Ok(at(stack, done, StmtState::Expression(purpose, reading))),
+    match expression::step(alloc, reading, token) {
+        Ok(Some(reading)) => Ok(at(stack, done, StmtState::Expression(purpose, reading))),
+        Ok(None) => {
+            drop(purpose);
+            Ok(None)
+        }
+        Err(error) => {
+            drop(purpose);
+            Err(error)
+        }
     }
 }
 
@@ -505,9 +545,16 @@ fn step_past(
 ) -> Result<Option<StmtReading>, AllocError>
     ensures { IfOk result (λ r. r ≡ passed (behind_use stack done purpose token.now.span token.now.mark) (expression_of.value reading)) }
 {
-    match expression::finish(alloc, reading)? {
-        None => Ok(None),
-        Some(x) => behind(alloc, stack, done, purpose, x, token),
+    match expression::finish(alloc, reading) {
+        Ok(Some(x)) => behind(alloc, stack, done, purpose, x, token),
+        Ok(None) => {
+            drop(purpose);
+            Ok(None)
+        }
+        Err(error) => {
+            drop(purpose);
+            Err(error)
+        }
     }
 }
 
@@ -541,7 +588,10 @@ fn expect_then(
 {
     match &token.mark {
         Mark::Keyword(Keyword::Then) => open(alloc, stack, done, OpenStmt::Yes(start, test.cond)),
-        _ => Ok(None),
+        _ => {
+            drop(test);
+            Ok(None)
+        }
     }
 }
 
@@ -562,7 +612,10 @@ fn expect_do(
             done,
             OpenStmt::WhileBody(start, test.cond),
         ),
-        _ => Ok(None),
+        _ => {
+            drop(test);
+            Ok(None)
+        }
     }
 }
 

@@ -1,6 +1,6 @@
 use Rattle.std.proofs.Common.{◌≡◌, subst, sym, refl}
 use Rattle.ac_parse.specs.ReadStatement.{value_at}
-use Rattle.ac_parse.proofs.Stacks.{is_empty, is_open}
+use Rattle.ac_expression_reader.proofs.Stacks.{is_empty, is_open}
 use Rattle.ac_parse.proofs.statement.finish.Goals as goal
 
 pub returns-then-not-is_empty : goal.returns-then-not-is_empty

@@ -1,6 +1,6 @@
 use Rattle.std.proofs.Common.{refl}
 use Rattle.ac_parse.specs.ReadStatement.{is_open}
-use Rattle.ac_parse.proofs.Stacks.{open_tells}
+use Rattle.ac_expression_reader.proofs.Stacks.{open_tells}
 use Rattle.ac_parse.proofs.statement.is_open.Goals as goal
 
 pub returns : goal.returns

@@ -1,8 +1,8 @@
 use Rattle.std.proofs.Common.{◌≡◌, ◌∙◌, subst, sym}
 use Rattle.std.specs.Prelude.{IfOk}
-use Rattle.ac_parse.specs.ReadCondition as condition
+use Rattle.ac_expression_reader.specs.ReadCondition as condition
 use Rattle.ac_parse.specs.ReadStatement.{testing, tested}
-use Rattle.ac_parse.specs.Steps.{inside}
+use Rattle.ac_expression_reader.specs.Steps.{inside}
 use Rattle.ac_parse.proofs.statement.step_condition.Goals as goal
 
 pub returns-then-is_own : goal.returns-then-is_own

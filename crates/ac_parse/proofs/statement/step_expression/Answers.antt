@@ -1,8 +1,8 @@
 use Rattle.std.proofs.Common.{◌≡◌, ◌∙◌, subst, sym}
 use Rattle.std.specs.Prelude.{IfOk}
-use Rattle.ac_parse.specs.ReadExpression as expression
+use Rattle.ac_expression_reader.specs.ReadExpression as expression
 use Rattle.ac_parse.specs.ReadStatement.{evaluating, behind}
-use Rattle.ac_parse.specs.Steps.{inside}
+use Rattle.ac_expression_reader.specs.Steps.{inside}
 use Rattle.ac_parse.proofs.statement.step_expression.Goals as goal
 
 pub returns-then-is_own : goal.returns-then-is_own

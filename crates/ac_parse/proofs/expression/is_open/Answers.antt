@@ -1,7 +1,0 @@
-use Rattle.std.proofs.Common.{refl}
-use Rattle.ac_parse.specs.ReadExpression.{is_open}
-use Rattle.ac_parse.proofs.Stacks.{open_tells}
-use Rattle.ac_parse.proofs.expression.is_open.Goals as goal
-
-pub returns : goal.returns
-returns c = open_tells _ c.args.stack.now is_open c.is_empty.ensures refl (λ x more. refl)

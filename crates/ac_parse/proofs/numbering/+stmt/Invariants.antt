@@ -1,5 +1,0 @@
-use Rattle.ac_parse.proofs.NumberLists.{BlockSoFar}
-use Rattle.ac_parse.proofs.numbering.+stmt.Given as goal
-
-abbrev pub invariant-number_block-loop-stmt : goal.invariant-number_block-loop-stmt
-invariant-number_block-loop-stmt l = BlockSoFar l.first l.block l.stmt-index l.next l.numbered

@@ -1,5 +1,0 @@
-use Rattle.ac_parse.proofs.NumberLists.{ItemsSoFar}
-use Rattle.ac_parse.proofs.numbering.number_items.Given as goal
-
-abbrev pub invariant-loop-item : goal.invariant-loop-item
-invariant-loop-item l = ItemsSoFar l.first l.items l.item-index l.next l.numbered

@@ -1,5 +1,0 @@
-use Rattle.ac_parse.proofs.SpelledPrints.{spelled_prints}
-use Rattle.ac_parse.proofs.print_laws.a_parsed_program_prints_back.Goals as goal
-
-pub returns : goal.returns
-returns c = spelled_prints

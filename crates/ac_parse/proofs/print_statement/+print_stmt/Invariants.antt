@@ -1,7 +1,0 @@
-use Rattle.std.proofs.Common.{◌≡◌, ◌++◌, drop, string_bytes}
-use Rattle.ac_parse.specs.Printing.{list_text}
-use Rattle.ac_parse.proofs.print_statement.+print_stmt.Given as goal
-
--- what the rest of the block adds makes the whole
-abbrev pub invariant-write_block-loop-stmt : goal.invariant-write_block-loop-stmt
-invariant-write_block-loop-stmt l = string_bytes l.out ++ list_text l.fn.depth (drop l.stmt-index l.block) ≡ string_bytes l.initial.out ++ list_text l.fn.depth l.block
