@@ -5,6 +5,7 @@ ghost use Rattle.ac_logic.specs.Reach.{reach_of, reach_of_array, reach_of_term};
 ghost use Rattle.ac_logic.specs.Substitution.{AreClosedChanges, IsClosedChange};
 
 use crate::formula::{ArrayTerm, Change, Formula, Term};
+use crate::measure::larger;
 
 /// Whether no `Bound` of the formula is loose: each names one of its `all`.
 #[tactic(auto, using(crate::proofs::Reaches::closed_at_reach))]
@@ -28,12 +29,12 @@ fn reach(formula: &Formula) -> u64
     match formula {
         Formula::True => 0,
         Formula::False => 0,
-        Formula::Le(s, t) => farther(term_reach(s.get()), term_reach(t.get())),
-        Formula::Eq(s, t) => farther(term_reach(s.get()), term_reach(t.get())),
+        Formula::Le(s, t) => larger(term_reach(s.get()), term_reach(t.get())),
+        Formula::Eq(s, t) => larger(term_reach(s.get()), term_reach(t.get())),
         Formula::Not(f) => reach(f.get()),
-        Formula::And(f, g) => farther(reach(f.get()), reach(g.get())),
-        Formula::Or(f, g) => farther(reach(f.get()), reach(g.get())),
-        Formula::Implies(f, g) => farther(reach(f.get()), reach(g.get())),
+        Formula::And(f, g) => larger(reach(f.get()), reach(g.get())),
+        Formula::Or(f, g) => larger(reach(f.get()), reach(g.get())),
+        Formula::Implies(f, g) => larger(reach(f.get()), reach(g.get())),
         Formula::All(f) => reach(f.get()).saturating_sub(1),
         Formula::Lab(_, f) => reach(f.get()),
     }
@@ -47,13 +48,13 @@ fn term_reach(term: &Term) -> u64
         Term::Num(_) => 0,
         Term::Sym(_) => 0,
         Term::Bound(k) => u64::from(*k) + 1,
-        Term::Read(a, i, j) => farther(
-            farther(array_reach(a.get()), term_reach(i.get())),
+        Term::Read(a, i, j) => larger(
+            larger(array_reach(a.get()), term_reach(i.get())),
             term_reach(j.get()),
         ),
-        Term::Add(s, t) => farther(term_reach(s.get()), term_reach(t.get())),
-        Term::Sub(s, t) => farther(term_reach(s.get()), term_reach(t.get())),
-        Term::Mul(s, t) => farther(term_reach(s.get()), term_reach(t.get())),
+        Term::Add(s, t) => larger(term_reach(s.get()), term_reach(t.get())),
+        Term::Sub(s, t) => larger(term_reach(s.get()), term_reach(t.get())),
+        Term::Mul(s, t) => larger(term_reach(s.get()), term_reach(t.get())),
         Term::Neg(t) => term_reach(t.get()),
     }
 }
@@ -65,19 +66,13 @@ fn array_reach(array: &ArrayTerm) -> u64
     match array {
         ArrayTerm::Sym(_) => 0,
         ArrayTerm::Put(a, i, j, v) => {
-            let indexes = farther(
-                farther(array_reach(a.get()), term_reach(i.get())),
+            let indexes = larger(
+                larger(array_reach(a.get()), term_reach(i.get())),
                 term_reach(j.get()),
             );
-            farther(indexes, term_reach(v.get()))
+            larger(indexes, term_reach(v.get()))
         }
     }
-}
-
-fn farther(left: u64, right: u64) -> u64
-    ensures { result ≡ max left right }
-{
-    left.max(right)
 }
 
 /// Whether no `Bound` stands in what the changes put in.

@@ -1,5 +1,5 @@
 //! Laws of the meaning of formulas. They do nothing when they run: what they ensure is the law.
-ghost use Rattle.std.specs.Prelude.{◌≡◌, ◌↔◌, List, [], ◌∷◌, ℤ};
+ghost use Rattle.std.specs.Prelude.{◌≡◌, ◌↔◌, ◌≤◌, List, [], ◌∷◌, ℕ, ℤ};
 ghost use Rattle.ac_logic.specs.declared.formula.Change.{Change as AnyChange};
 ghost use Rattle.ac_logic.specs.declared.formula.Formula.{Formula as AnyFormula};
 ghost use Rattle.ac_logic.specs.declared.formula.Term.{Term as AnyTerm};
@@ -8,6 +8,9 @@ ghost use Rattle.ac_logic.specs.Bounds.{IsTermClosed, IsClosed};
 ghost use Rattle.ac_logic.specs.Substitution.{formula_after, changed, AreClosedChanges};
 ghost use Rattle.ac_logic.specs.Opening.{opened};
 ghost use Rattle.ac_logic.specs.Absence.{AreAbsent};
+ghost use Rattle.ac_logic.specs.Parts.{IsPart};
+ghost use Rattle.ac_logic.specs.Readable.{IsReadableIn};
+ghost use Rattle.ac_logic.specs.Size.{depth_of, size_of};
 
 /// A formula after changes holds exactly where the formula holds with the symbols changed.
 pub fn change_law()
@@ -18,6 +21,17 @@ pub fn change_law()
 pub fn absent_change_law()
     ensures same { (cs : List AnyChange) (f : AnyFormula) → AreAbsent cs f → formula_after cs f ≡ f }
     ensures meaning { (cs : List AnyChange) (f : AnyFormula) (w : Valuation) → AreAbsent cs f → AreClosedChanges cs → Holds (changed w cs) f ↔ Holds w f }
+{}
+
+/// Changes make no formula smaller, and none less deep.
+pub fn change_growth_law()
+    ensures size { (cs : List AnyChange) (f : AnyFormula) → size_of f ≤ size_of (formula_after cs f) }
+    ensures depth { (cs : List AnyChange) (f : AnyFormula) → depth_of f ≤ depth_of (formula_after cs f) }
+{}
+
+/// Each part of a readable formula is readable, under the `all` that stand around it.
+pub fn readable_parts_law()
+    ensures { (d e : ℕ) (f g : AnyFormula) → IsPart d f e g → IsReadableIn d f → IsReadableIn e g }
 {}
 
 /// The body of an `all` at a term holds exactly where the body holds with the term's number for its variable.

@@ -123,7 +123,7 @@ fn plus(left: u64, right: u64) -> u64
     left.saturating_add(right)
 }
 
-fn larger(left: u64, right: u64) -> u64
+pub(crate) fn larger(left: u64, right: u64) -> u64
     ensures { result ≡ max left right }
 {
     left.max(right)

@@ -4,10 +4,7 @@ ghost use Rattle.ac_logic.specs.Answer.{renewed};
 ghost use Rattle.ac_logic.specs.Opening.{array_at, bound_at, formula_at, opened, term_at};
 
 use crate::formula::{ArrayTerm, Formula, Term};
-use crate::renewal::{
-    renew, renew_add, renew_all, renew_and, renew_eq, renew_implies, renew_lab, renew_le,
-    renew_mul, renew_neg, renew_not, renew_or, renew_put, renew_read, renew_sub,
-};
+use crate::renewal::{NewPut, NewRead, renew, renew_one, renew_put, renew_read, renew_two};
 use ac_shared::Shared;
 use std::alloc::{AllocError, Global};
 
@@ -38,40 +35,40 @@ fn formula_opened(
         Formula::Le(s, t) => {
             let u = term_opened(alloc, s.get(), depth, by)?;
             let v = term_opened(alloc, t.get(), depth, by)?;
-            renew_le(alloc, s, u, t, v)
+            renew_two(alloc, s, u, t, v, Formula::Le)
         }
         Formula::Eq(s, t) => {
             let u = term_opened(alloc, s.get(), depth, by)?;
             let v = term_opened(alloc, t.get(), depth, by)?;
-            renew_eq(alloc, s, u, t, v)
+            renew_two(alloc, s, u, t, v, Formula::Eq)
         }
         Formula::Not(f) => {
             let h = formula_opened(alloc, f.get(), depth, by)?;
-            renew_not(alloc, f, h)
+            renew_one(alloc, h, Formula::Not)
         }
         Formula::And(f, g) => {
             let h = formula_opened(alloc, f.get(), depth, by)?;
             let i = formula_opened(alloc, g.get(), depth, by)?;
-            renew_and(alloc, f, h, g, i)
+            renew_two(alloc, f, h, g, i, Formula::And)
         }
         Formula::Or(f, g) => {
             let h = formula_opened(alloc, f.get(), depth, by)?;
             let i = formula_opened(alloc, g.get(), depth, by)?;
-            renew_or(alloc, f, h, g, i)
+            renew_two(alloc, f, h, g, i, Formula::Or)
         }
         Formula::Implies(f, g) => {
             let h = formula_opened(alloc, f.get(), depth, by)?;
             let i = formula_opened(alloc, g.get(), depth, by)?;
-            renew_implies(alloc, f, h, g, i)
+            renew_two(alloc, f, h, g, i, Formula::Implies)
         }
         Formula::All(f) => {
             let deeper = depth.checked_add(1).ok_or(AllocError)?;
             let h = formula_opened(alloc, f.get(), deeper, by)?;
-            renew_all(alloc, f, h)
+            renew_one(alloc, h, Formula::All)
         }
         Formula::Lab(l, f) => {
             let h = formula_opened(alloc, f.get(), depth, by)?;
-            renew_lab(alloc, *l, f, h)
+            renew_one(alloc, h, |f| Formula::Lab(*l, f))
         }
     }
 }
@@ -93,26 +90,36 @@ fn term_opened(
             let b = array_opened(alloc, a.get(), depth, by)?;
             let k = term_opened(alloc, i.get(), depth, by)?;
             let l = term_opened(alloc, j.get(), depth, by)?;
-            renew_read(alloc, a, b, i, k, j, l)
+            renew_read(
+                alloc,
+                a,
+                i,
+                j,
+                NewRead {
+                    array: b,
+                    first: k,
+                    second: l,
+                },
+            )
         }
         Term::Add(s, t) => {
             let u = term_opened(alloc, s.get(), depth, by)?;
             let v = term_opened(alloc, t.get(), depth, by)?;
-            renew_add(alloc, s, u, t, v)
+            renew_two(alloc, s, u, t, v, Term::Add)
         }
         Term::Sub(s, t) => {
             let u = term_opened(alloc, s.get(), depth, by)?;
             let v = term_opened(alloc, t.get(), depth, by)?;
-            renew_sub(alloc, s, u, t, v)
+            renew_two(alloc, s, u, t, v, Term::Sub)
         }
         Term::Mul(s, t) => {
             let u = term_opened(alloc, s.get(), depth, by)?;
             let v = term_opened(alloc, t.get(), depth, by)?;
-            renew_mul(alloc, s, u, t, v)
+            renew_two(alloc, s, u, t, v, Term::Mul)
         }
         Term::Neg(t) => {
             let u = term_opened(alloc, t.get(), depth, by)?;
-            renew_neg(alloc, t, u)
+            renew_one(alloc, u, Term::Neg)
         }
     }
 }
@@ -133,7 +140,19 @@ fn array_opened(
             let k = term_opened(alloc, i.get(), depth, by)?;
             let l = term_opened(alloc, j.get(), depth, by)?;
             let u = term_opened(alloc, v.get(), depth, by)?;
-            renew_put(alloc, a, b, i, k, j, l, v, u)
+            renew_put(
+                alloc,
+                a,
+                i,
+                j,
+                v,
+                NewPut {
+                    array: b,
+                    first: k,
+                    second: l,
+                    value: u,
+                },
+            )
         }
     }
 }

@@ -1,7 +1,7 @@
 //! Whether a formula or a term has a text that reads back. It takes no memory.
 ghost use Rattle.std.specs.Prelude.{IsTrue, ◌≡◌, ◌↔◌};
 ghost use Rattle.ac_logic.specs.Readable.{HasGoodNames, HasGoodNamesInArray, HasGoodNamesInTerm, IsReadable, IsReadableArray, IsReadableScalar, IsReadableTerm};
-ghost use Rattle.ac_tree.specs.Tokens.{Each, InName, IsName, kind_of};
+ghost use Rattle.ac_tree.specs.Tokens.{Each, InName, IsName, kind_of_byte};
 ghost use Rattle.ac_tree.specs.declared.token.ByteKind.TheVariants.{Letter};
 
 use crate::closed::{is_closed, is_term_closed};
@@ -110,7 +110,7 @@ fn is_name(name: &Name) -> bool
 }
 
 fn is_letter(byte: u8) -> bool
-    ensures { IsTrue result ↔ (kind_of byte ≡ Letter) }
+    ensures { IsTrue result ↔ (kind_of_byte byte ≡ Letter) }
 {
     ByteKind::of(byte) == ByteKind::Letter
 }
@@ -118,10 +118,12 @@ fn is_letter(byte: u8) -> bool
 fn are_in_name(bytes: &[u8]) -> bool
     ensures { IsTrue result ↔ Each InName bytes.now }
 {
-    match bytes {
-        [] => true,
-        [first, rest @ ..] => is_in_name(ByteKind::of(*first)) && are_in_name(rest),
+    for byte in bytes {
+        if !is_in_name(ByteKind::of(*byte)) {
+            return false;
+        }
     }
+    true
 }
 
 fn is_in_name(kind: ByteKind) -> bool

@@ -1,10 +1,9 @@
 //! Nodes made again from their children: None says that a child is the old one, and so of the node where all are.
-ghost use Rattle.std.specs.Prelude.{◌≡◌, IfOk};
+ghost use Rattle.std.specs.Prelude.{◌≡◌, IfOk, MatchOption, None};
 ghost use Rattle.ac_logic.specs.Answer.{renewed};
-ghost use Rattle.ac_logic.specs.Patterns.{Conjunction, Difference, Disjunction, Every, Implication, Labelled, Negation, Negative, Product, PutOf, ReadOf, Sum};
+ghost use Rattle.ac_logic.specs.Patterns.{PutOf, ReadOf};
 
-use crate::formula::{ArrayTerm, Formula, Term};
-use crate::label::Label;
+use crate::formula::{ArrayTerm, Term};
 use ac_shared::Shared;
 use std::alloc::{AllocError, Global};
 
@@ -18,234 +17,94 @@ pub fn renew<T: Drop>(old: &Shared<T>, new: Option<Shared<T>>) -> Result<Shared<
     }
 }
 
-pub fn renew_le(
+/// The node of a new child.
+pub fn renew_one<C: Drop, N: Drop, F: FnOnce(Shared<C>) -> N>(
     alloc: Global,
-    first: &Shared<Term>,
-    new_first: Option<Shared<Term>>,
-    second: &Shared<Term>,
-    new_second: Option<Shared<Term>>,
-) -> Result<Option<Shared<Formula>>, AllocError>
-    ensures { IfOk result (λ new. renewed (Formula.Le first.now second.now) new ≡ Formula.Le (renewed first.now new_first) (renewed second.now new_second)) }
-{
-    if new_first.is_none() && new_second.is_none() {
-        return Ok(None);
-    }
-    let first = renew(first, new_first)?;
-    let second = renew(second, new_second)?;
-    Ok(Some(Shared::new(alloc, Formula::Le(first, second))?))
-}
-
-pub fn renew_eq(
-    alloc: Global,
-    first: &Shared<Term>,
-    new_first: Option<Shared<Term>>,
-    second: &Shared<Term>,
-    new_second: Option<Shared<Term>>,
-) -> Result<Option<Shared<Formula>>, AllocError>
-    ensures { IfOk result (λ new. renewed (Formula.Eq first.now second.now) new ≡ Formula.Eq (renewed first.now new_first) (renewed second.now new_second)) }
-{
-    if new_first.is_none() && new_second.is_none() {
-        return Ok(None);
-    }
-    let first = renew(first, new_first)?;
-    let second = renew(second, new_second)?;
-    Ok(Some(Shared::new(alloc, Formula::Eq(first, second))?))
-}
-
-pub fn renew_and(
-    alloc: Global,
-    first: &Shared<Formula>,
-    new_first: Option<Shared<Formula>>,
-    second: &Shared<Formula>,
-    new_second: Option<Shared<Formula>>,
-) -> Result<Option<Shared<Formula>>, AllocError>
-    ensures { IfOk result (λ new. renewed (Conjunction first.now second.now) new ≡ Conjunction (renewed first.now new_first) (renewed second.now new_second)) }
-{
-    if new_first.is_none() && new_second.is_none() {
-        return Ok(None);
-    }
-    let first = renew(first, new_first)?;
-    let second = renew(second, new_second)?;
-    Ok(Some(Shared::new(alloc, Formula::And(first, second))?))
-}
-
-pub fn renew_or(
-    alloc: Global,
-    first: &Shared<Formula>,
-    new_first: Option<Shared<Formula>>,
-    second: &Shared<Formula>,
-    new_second: Option<Shared<Formula>>,
-) -> Result<Option<Shared<Formula>>, AllocError>
-    ensures { IfOk result (λ new. renewed (Disjunction first.now second.now) new ≡ Disjunction (renewed first.now new_first) (renewed second.now new_second)) }
-{
-    if new_first.is_none() && new_second.is_none() {
-        return Ok(None);
-    }
-    let first = renew(first, new_first)?;
-    let second = renew(second, new_second)?;
-    Ok(Some(Shared::new(alloc, Formula::Or(first, second))?))
-}
-
-pub fn renew_implies(
-    alloc: Global,
-    first: &Shared<Formula>,
-    new_first: Option<Shared<Formula>>,
-    second: &Shared<Formula>,
-    new_second: Option<Shared<Formula>>,
-) -> Result<Option<Shared<Formula>>, AllocError>
-    ensures { IfOk result (λ new. renewed (Implication first.now second.now) new ≡ Implication (renewed first.now new_first) (renewed second.now new_second)) }
-{
-    if new_first.is_none() && new_second.is_none() {
-        return Ok(None);
-    }
-    let first = renew(first, new_first)?;
-    let second = renew(second, new_second)?;
-    Ok(Some(Shared::new(alloc, Formula::Implies(first, second))?))
-}
-
-pub fn renew_add(
-    alloc: Global,
-    first: &Shared<Term>,
-    new_first: Option<Shared<Term>>,
-    second: &Shared<Term>,
-    new_second: Option<Shared<Term>>,
-) -> Result<Option<Shared<Term>>, AllocError>
-    ensures { IfOk result (λ new. renewed (Sum first.now second.now) new ≡ Sum (renewed first.now new_first) (renewed second.now new_second)) }
-{
-    if new_first.is_none() && new_second.is_none() {
-        return Ok(None);
-    }
-    let first = renew(first, new_first)?;
-    let second = renew(second, new_second)?;
-    Ok(Some(Shared::new(alloc, Term::Add(first, second))?))
-}
-
-pub fn renew_sub(
-    alloc: Global,
-    first: &Shared<Term>,
-    new_first: Option<Shared<Term>>,
-    second: &Shared<Term>,
-    new_second: Option<Shared<Term>>,
-) -> Result<Option<Shared<Term>>, AllocError>
-    ensures { IfOk result (λ new. renewed (Difference first.now second.now) new ≡ Difference (renewed first.now new_first) (renewed second.now new_second)) }
-{
-    if new_first.is_none() && new_second.is_none() {
-        return Ok(None);
-    }
-    let first = renew(first, new_first)?;
-    let second = renew(second, new_second)?;
-    Ok(Some(Shared::new(alloc, Term::Sub(first, second))?))
-}
-
-pub fn renew_mul(
-    alloc: Global,
-    first: &Shared<Term>,
-    new_first: Option<Shared<Term>>,
-    second: &Shared<Term>,
-    new_second: Option<Shared<Term>>,
-) -> Result<Option<Shared<Term>>, AllocError>
-    ensures { IfOk result (λ new. renewed (Product first.now second.now) new ≡ Product (renewed first.now new_first) (renewed second.now new_second)) }
-{
-    if new_first.is_none() && new_second.is_none() {
-        return Ok(None);
-    }
-    let first = renew(first, new_first)?;
-    let second = renew(second, new_second)?;
-    Ok(Some(Shared::new(alloc, Term::Mul(first, second))?))
-}
-
-pub fn renew_not(
-    alloc: Global,
-    inner: &Shared<Formula>,
-    new: Option<Shared<Formula>>,
-) -> Result<Option<Shared<Formula>>, AllocError>
-    ensures { IfOk result (λ node. renewed (Negation inner.now) node ≡ Negation (renewed inner.now new)) }
+    new: Option<Shared<C>>,
+    make: F,
+) -> Result<Option<Shared<N>>, AllocError>
+    requires { F.IsAlwaysCallable make }
+    ensures { IfOk result (λ node. MatchOption new (node ≡ None) (λ child. MatchOption node ⊥ (λ n. F.post make child n))) }
 {
     match new {
         None => Ok(None),
-        Some(inner) => Ok(Some(Shared::new(alloc, Formula::Not(inner))?)),
+        Some(child) => Ok(Some(Shared::new(alloc, make(child))?)),
     }
 }
 
-pub fn renew_all(
+/// The node of two children, made again where one of them is new.
+pub fn renew_two<C: Drop, N: Drop, F: FnOnce(Shared<C>, Shared<C>) -> N>(
     alloc: Global,
-    inner: &Shared<Formula>,
-    new: Option<Shared<Formula>>,
-) -> Result<Option<Shared<Formula>>, AllocError>
-    ensures { IfOk result (λ node. renewed (Every inner.now) node ≡ Every (renewed inner.now new)) }
+    first: &Shared<C>,
+    new_first: Option<Shared<C>>,
+    second: &Shared<C>,
+    new_second: Option<Shared<C>>,
+    make: F,
+) -> Result<Option<Shared<N>>, AllocError>
+    requires { F.IsAlwaysCallable make }
+    ensures { IfOk result (λ node. MatchOption node ((new_first ≡ None) × (new_second ≡ None)) (λ n. F.post make (renewed first.now new_first) (renewed second.now new_second) n)) }
 {
-    match new {
-        None => Ok(None),
-        Some(inner) => Ok(Some(Shared::new(alloc, Formula::All(inner))?)),
+    if new_first.is_none() && new_second.is_none() {
+        return Ok(None);
     }
+    let first = renew(first, new_first)?;
+    let second = renew(second, new_second)?;
+    Ok(Some(Shared::new(alloc, make(first, second))?))
 }
 
-pub fn renew_lab(
-    alloc: Global,
-    label: Label,
-    inner: &Shared<Formula>,
-    new: Option<Shared<Formula>>,
-) -> Result<Option<Shared<Formula>>, AllocError>
-    ensures { IfOk result (λ node. renewed (Labelled label inner.now) node ≡ Labelled label (renewed inner.now new)) }
-{
-    match new {
-        None => Ok(None),
-        Some(inner) => Ok(Some(Shared::new(alloc, Formula::Lab(label, inner))?)),
-    }
+/// What takes the place of the children of a `Read`; None: the child stays.
+#[derive(Drop)]
+pub struct NewRead {
+    pub array: Option<Shared<ArrayTerm>>,
+    pub first: Option<Shared<Term>>,
+    pub second: Option<Shared<Term>>,
 }
 
-pub fn renew_neg(
-    alloc: Global,
-    inner: &Shared<Term>,
-    new: Option<Shared<Term>>,
-) -> Result<Option<Shared<Term>>, AllocError>
-    ensures { IfOk result (λ node. renewed (Negative inner.now) node ≡ Negative (renewed inner.now new)) }
-{
-    match new {
-        None => Ok(None),
-        Some(inner) => Ok(Some(Shared::new(alloc, Term::Neg(inner))?)),
-    }
-}
-
+/// A `Read`, made again where one of its children is new.
 pub fn renew_read(
     alloc: Global,
     array: &Shared<ArrayTerm>,
-    new_array: Option<Shared<ArrayTerm>>,
-    i: &Shared<Term>,
-    new_i: Option<Shared<Term>>,
-    j: &Shared<Term>,
-    new_j: Option<Shared<Term>>,
+    first: &Shared<Term>,
+    second: &Shared<Term>,
+    new: NewRead,
 ) -> Result<Option<Shared<Term>>, AllocError>
-    ensures { IfOk result (λ node. renewed (ReadOf array.now i.now j.now) node ≡ ReadOf (renewed array.now new_array) (renewed i.now new_i) (renewed j.now new_j)) }
+    ensures { IfOk result (λ node. renewed (ReadOf array.now first.now second.now) node ≡ ReadOf (renewed array.now new.array) (renewed first.now new.first) (renewed second.now new.second)) }
 {
-    if new_array.is_none() && new_i.is_none() && new_j.is_none() {
+    if new.array.is_none() && new.first.is_none() && new.second.is_none() {
         return Ok(None);
     }
-    let array = renew(array, new_array)?;
-    let i = renew(i, new_i)?;
-    let j = renew(j, new_j)?;
-    Ok(Some(Shared::new(alloc, Term::Read(array, i, j))?))
+    let array = renew(array, new.array)?;
+    let first = renew(first, new.first)?;
+    let second = renew(second, new.second)?;
+    Ok(Some(Shared::new(alloc, Term::Read(array, first, second))?))
 }
 
+/// What takes the place of the children of a `Put`; None: the child stays.
+#[derive(Drop)]
+pub struct NewPut {
+    pub array: Option<Shared<ArrayTerm>>,
+    pub first: Option<Shared<Term>>,
+    pub second: Option<Shared<Term>>,
+    pub value: Option<Shared<Term>>,
+}
+
+/// A `Put`, made again where one of its children is new.
 pub fn renew_put(
     alloc: Global,
     array: &Shared<ArrayTerm>,
-    new_array: Option<Shared<ArrayTerm>>,
-    i: &Shared<Term>,
-    new_i: Option<Shared<Term>>,
-    j: &Shared<Term>,
-    new_j: Option<Shared<Term>>,
+    first: &Shared<Term>,
+    second: &Shared<Term>,
     value: &Shared<Term>,
-    new_value: Option<Shared<Term>>,
+    new: NewPut,
 ) -> Result<Option<Shared<ArrayTerm>>, AllocError>
-    ensures { IfOk result (λ node. renewed (PutOf array.now i.now j.now value.now) node ≡ PutOf (renewed array.now new_array) (renewed i.now new_i) (renewed j.now new_j) (renewed value.now new_value)) }
+    ensures { IfOk result (λ node. renewed (PutOf array.now first.now second.now value.now) node ≡ PutOf (renewed array.now new.array) (renewed first.now new.first) (renewed second.now new.second) (renewed value.now new.value)) }
 {
-    if new_array.is_none() && new_i.is_none() && new_j.is_none() && new_value.is_none() {
+    if new.array.is_none() && new.first.is_none() && new.second.is_none() && new.value.is_none() {
         return Ok(None);
     }
-    let array = renew(array, new_array)?;
-    let i = renew(i, new_i)?;
-    let j = renew(j, new_j)?;
-    let value = renew(value, new_value)?;
-    Ok(Some(Shared::new(alloc, ArrayTerm::Put(array, i, j, value))?))
+    let array = renew(array, new.array)?;
+    let first = renew(first, new.first)?;
+    let second = renew(second, new.second)?;
+    let value = renew(value, new.value)?;
+    Ok(Some(Shared::new(alloc, ArrayTerm::Put(array, first, second, value))?))
 }

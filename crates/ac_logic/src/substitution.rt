@@ -7,10 +7,7 @@ ghost use Rattle.ac_logic.specs.Substitution.{AreClosedChanges, array_after, arr
 
 use crate::equality::same_symbol;
 use crate::formula::{ArrayTerm, Change, Formula, Sym, Term};
-use crate::renewal::{
-    renew, renew_add, renew_all, renew_and, renew_eq, renew_implies, renew_lab, renew_le,
-    renew_mul, renew_neg, renew_not, renew_or, renew_put, renew_read, renew_sub,
-};
+use crate::renewal::{NewPut, NewRead, renew, renew_one, renew_put, renew_read, renew_two};
 use ac_shared::Shared;
 use std::alloc::{AllocError, Global};
 
@@ -43,39 +40,39 @@ fn changed_formula(
         Formula::Le(s, t) => {
             let u = changed_term(alloc, s.get(), changes)?;
             let v = changed_term(alloc, t.get(), changes)?;
-            renew_le(alloc, s, u, t, v)
+            renew_two(alloc, s, u, t, v, Formula::Le)
         }
         Formula::Eq(s, t) => {
             let u = changed_term(alloc, s.get(), changes)?;
             let v = changed_term(alloc, t.get(), changes)?;
-            renew_eq(alloc, s, u, t, v)
+            renew_two(alloc, s, u, t, v, Formula::Eq)
         }
         Formula::Not(f) => {
             let h = changed_formula(alloc, f.get(), changes)?;
-            renew_not(alloc, f, h)
+            renew_one(alloc, h, Formula::Not)
         }
         Formula::And(f, g) => {
             let h = changed_formula(alloc, f.get(), changes)?;
             let i = changed_formula(alloc, g.get(), changes)?;
-            renew_and(alloc, f, h, g, i)
+            renew_two(alloc, f, h, g, i, Formula::And)
         }
         Formula::Or(f, g) => {
             let h = changed_formula(alloc, f.get(), changes)?;
             let i = changed_formula(alloc, g.get(), changes)?;
-            renew_or(alloc, f, h, g, i)
+            renew_two(alloc, f, h, g, i, Formula::Or)
         }
         Formula::Implies(f, g) => {
             let h = changed_formula(alloc, f.get(), changes)?;
             let i = changed_formula(alloc, g.get(), changes)?;
-            renew_implies(alloc, f, h, g, i)
+            renew_two(alloc, f, h, g, i, Formula::Implies)
         }
         Formula::All(f) => {
             let h = changed_formula(alloc, f.get(), changes)?;
-            renew_all(alloc, f, h)
+            renew_one(alloc, h, Formula::All)
         }
         Formula::Lab(l, f) => {
             let h = changed_formula(alloc, f.get(), changes)?;
-            renew_lab(alloc, *l, f, h)
+            renew_one(alloc, h, |f| Formula::Lab(*l, f))
         }
     }
 }
@@ -96,26 +93,36 @@ fn changed_term(
             let b = changed_array(alloc, a.get(), changes)?;
             let k = changed_term(alloc, i.get(), changes)?;
             let l = changed_term(alloc, j.get(), changes)?;
-            renew_read(alloc, a, b, i, k, j, l)
+            renew_read(
+                alloc,
+                a,
+                i,
+                j,
+                NewRead {
+                    array: b,
+                    first: k,
+                    second: l,
+                },
+            )
         }
         Term::Add(s, t) => {
             let u = changed_term(alloc, s.get(), changes)?;
             let v = changed_term(alloc, t.get(), changes)?;
-            renew_add(alloc, s, u, t, v)
+            renew_two(alloc, s, u, t, v, Term::Add)
         }
         Term::Sub(s, t) => {
             let u = changed_term(alloc, s.get(), changes)?;
             let v = changed_term(alloc, t.get(), changes)?;
-            renew_sub(alloc, s, u, t, v)
+            renew_two(alloc, s, u, t, v, Term::Sub)
         }
         Term::Mul(s, t) => {
             let u = changed_term(alloc, s.get(), changes)?;
             let v = changed_term(alloc, t.get(), changes)?;
-            renew_mul(alloc, s, u, t, v)
+            renew_two(alloc, s, u, t, v, Term::Mul)
         }
         Term::Neg(t) => {
             let u = changed_term(alloc, t.get(), changes)?;
-            renew_neg(alloc, t, u)
+            renew_one(alloc, u, Term::Neg)
         }
     }
 }
@@ -135,7 +142,19 @@ fn changed_array(
             let k = changed_term(alloc, i.get(), changes)?;
             let l = changed_term(alloc, j.get(), changes)?;
             let u = changed_term(alloc, v.get(), changes)?;
-            renew_put(alloc, a, b, i, k, j, l, v, u)
+            renew_put(
+                alloc,
+                a,
+                i,
+                j,
+                v,
+                NewPut {
+                    array: b,
+                    first: k,
+                    second: l,
+                    value: u,
+                },
+            )
         }
     }
 }

@@ -1,8 +1,0 @@
-use Rattle.ac_logic.proofs.RoundFormula.{formula_text, term_text}
-use Rattle.ac_logic.proofs.text_laws.print_reads_back_law.Goals as goal
-
-pub returns-clause-formula : goal.returns-clause-formula
-returns-clause-formula c = formula_text
-
-pub returns-clause-term : goal.returns-clause-term
-returns-clause-term c = term_text

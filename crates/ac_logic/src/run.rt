@@ -1,8 +1,0 @@
-/// What goes on for as long as its bytes are of one kind.
-#[derive(Clone, Copy)]
-pub enum Run {
-    Name,
-    Bound,
-    Number,
-    Blank,
-}
