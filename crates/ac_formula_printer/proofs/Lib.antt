@@ -1,0 +1,5 @@
+mod Appends
+mod Spelling
+mod RoundTerm
+mod RoundFormula
+mod Ranges

@@ -1,0 +1,64 @@
+-- What the functions that cut and read formula text give.
+-- No promise rests on this file: it says what the code keeps on the way.
+use Rattle.std.specs.Prelude.{◌≡◌, ℕ, ◌+◌, ◌≤◌, ◌<◌, List, [], ◌∷◌, ◌++◌, length, take, drop, reverse, Option, Some, None, Result, Ok, Err, ◌⊎◌}
+use Rattle.ac_tree.specs.declared.token.Sign.{Sign}
+use Rattle.ac_tree.specs.declared.token.ByteKind.{ByteKind}
+use Rattle.ac_tree.specs.declared.token.ByteKind.TheVariants as byte_kind
+use Rattle.ac_tree.specs.Tokens.{kind_of_byte, joined}
+use Rattle.ac_formula_printer.specs.declared.mark.FormulaMark.{FormulaMark}
+use Rattle.ac_formula_printer.specs.declared.byte_run.Run.{Run}
+use Rattle.ac_formula_printer.specs.declared.byte_run.Run.TheVariants as run
+use Rattle.ac_formula_reader.specs.declared.tokens.Piece.{Piece}
+use Rattle.ac_formula_reader.specs.declared.machine_state.State.{State}
+use Rattle.ac_formula_reader.specs.declared.read.Advance.{Advance}
+use Rattle.ac_formula_reader.specs.declared.read.Reached.{Reached}
+use Rattle.ac_formula_reader.specs.declared.read.Reached.TheVariants.{Stuck, Through}
+use Rattle.ac_formula_reader.specs.declared.read.FormulaFault.{FormulaFault}
+use Rattle.ac_formula_reader.specs.declared.read.FormulaFault.TheVariants.{At, OutOfMemory}
+use Rattle.ac_formula_printer.specs.FormulaText.{Tokens, Goal, Tree}
+use Rattle.ac_formula_printer.specs.FormulaTokens.{front, behind, first_token, IsText, IsRefusedAt}
+use Rattle.ac_formula_reader.specs.FormulaMachine.{Stack, stepped}
+use Rattle.ac_formula_reader.specs.FormulaReached.{IsReached}
+
+-- a run takes this many bytes
+pub record IsRun (r : Run) (bytes : List ℕ) (n : ℕ) : Type 0 where
+  pub inside : n ≤ length bytes
+  pub ahead : front r bytes ≡ take n bytes
+  pub after : behind r bytes ≡ drop n bytes
+
+-- a byte of this kind begins a sign or no token
+abbrev pub IsNoWord : ByteKind → Type 0
+IsNoWord byte_kind.Letter = ⊥
+IsNoWord byte_kind.Digit = ⊥
+IsNoWord byte_kind.Underscore = ⊥
+IsNoWord byte_kind.Hash = ⊥
+IsNoWord byte_kind.At = ⊥
+IsNoWord _ = Unit {0}
+
+-- the sign that a byte makes with the next one
+abbrev pub joined_first : ByteKind → List ℕ → Option Sign
+joined_first k [] = None
+joined_first k (c ∷ bytes) = joined k (kind_of_byte c)
+
+-- the piece is the first token
+abbrev pub IsFirst : List ℕ → Option Piece → Type 0
+IsFirst bytes None = first_token bytes ≡ None
+IsFirst bytes (Some p) = (first_token bytes ≡ Some (p.mark, drop p.len bytes)) × (0 < p.len) × (p.len ≤ length bytes)
+
+-- no token, or one that the machine has no step for; or a step, with the blanks behind the token
+abbrev pub Advances : Stack → State → List ℕ → Stack → Option Advance → Type 0
+Advances k s bytes j None = (first_token bytes ≡ None) ⊎ ((m : FormulaMark) × (rest : List ℕ) × (first_token bytes ≡ Some (m, rest)) × (stepped k s m ≡ None))
+Advances k s bytes j (Some a) =
+    (m : FormulaMark) × (rest : List ℕ) × (first_token bytes ≡ Some (m, rest)) × (stepped k s m ≡ Some (j, a.state)) × (behind run.Blank rest ≡ drop a.len bytes) × (0 < a.len) × (a.len ≤ length bytes)
+
+abbrev pub HasRun : Goal → List ℕ → Reached → Type 0
+HasRun g bytes (Stuck place) = IsRefusedAt g bytes place
+HasRun g bytes (Through stack state) = IsReached g bytes (reverse stack.items) state []
+
+abbrev pub IsRead : (g : Goal) → List ℕ → Result (Tree g) ℕ → Type 0
+IsRead g bytes (Ok t) = IsText g t bytes
+IsRead g bytes (Err place) = IsRefusedAt g bytes place
+
+abbrev pub IsFaultAt : ℕ → FormulaFault → Type 0
+IsFaultAt place (At at) = at ≡ place
+IsFaultAt place OutOfMemory = ⊥
