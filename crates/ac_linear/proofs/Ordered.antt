@@ -10,7 +10,7 @@ use Rattle.std.proofs.lemmas.List.Elements.{All-nil, All-cons}
 use Rattle.std.proofs.lemmas.List.Kept.{AllPairs-cons}
 use Rattle.ac_logic.specs.declared.formula.Term.{Term, Num, Bound}
 use Rattle.ac_logic.specs.Patterns.{Scalar, ReadOf, Sum, Difference, Product, Negative}
-use Rattle.ac_logic.specs.Printing.{text_of_term}
+use Rattle.ac_formula_printer.specs.Printing.{text_of_term}
 use Rattle.ac_linear.specs.declared.entry.Entry.{Entry}
 use Rattle.ac_linear.specs.declared.entry.Form.{Form}
 use Rattle.ac_linear.specs.declared.linear.Linear.{Linear}

@@ -1,107 +1,96 @@
-//! Combinations of normal forms, and forms with the prints of their units.
-ghost use Rattle.std.specs.Prelude.{◌≡◌, IfOk, map, Some, None, Err};
+//! Combinations of normal forms, and forms without the prints of their units.
+ghost use Rattle.std.specs.Prelude.{◌≡◌, IfOk, map, pos, Some, None, Err};
 ghost use Rattle.ac_linear.specs.declared.fault.LinFault.TheVariants as LinFault;
-ghost use Rattle.ac_linear.specs.NormalForm.{linear_of, part_of};
-ghost use Rattle.ac_linear.specs.Combination.{combination_of, combined_with, entry_of_part, form_of_linear};
-ghost use Rattle.ac_linear.specs.Places.{InOrder};
+ghost use Rattle.ac_linear.specs.NormalForm.{linear_of, number_form, part_of};
+ghost use Rattle.ac_linear.specs.Combination.{combination_of, combined_with};
 ghost use Rattle.ac_linear.specs.WellOrdered.{IsOrdered};
 
-use crate::entry::{Entries, Entry, Form, Print};
+use crate::entry::{Entries, Entry, Form};
 use crate::fault::LinFault;
 use crate::form::plus;
 use crate::linear::{Linear, Part};
+use crate::printed::PrintedLinear;
 use crate::range::Range;
+use crate::unit::number_form;
 use sqlite_items::Items;
 use std::alloc::{AllocError, Global};
 
 /// The sum of factor times fact, one fact after the other. It ends where either list does. It is too wide exactly where
 /// a product or sum on the way leaves 128 bits. No factor is 0, each unit stands once, and the parts stand in the order
-/// of their printed units, however those of the facts stand.
-#[tactic(auto, using(crate::proofs::Ordered::combination_ordered))]
+/// of their printed units, however those of the facts stand. Each unit of a fact is printed once.
 pub fn combine(alloc: Global, facts: &[Linear], factors: &[u64]) -> Result<Linear, LinFault>
     ensures ok { IfOk result (λ sum. combination_of facts.now factors.now ≡ Some sum) }
     ensures ordered { IfOk result (λ sum. IsOrdered sum.parts) }
     ensures wide { result ≡ Err LinFault.Wide → combination_of facts.now factors.now ≡ None }
 {
-    match combination(alloc, facts, factors) {
-        Ok(Some(sum)) => Ok(sum),
-        Ok(None) => Err(LinFault::Wide),
-        Err(_) => Err(LinFault::OutOfMemory),
+    let facts = printed(alloc, facts)?;
+    combine_printed(alloc, facts, factors)
+}
+
+fn printed(alloc: Global, facts: &[Linear]) -> Result<Vec<PrintedLinear>, AllocError>
+    ensures { IfOk result (λ printed. printed.items ≡ facts.now) }
+{
+    let mut printed = Vec::new(alloc);
+    for fact in facts {
+        printed.push(PrintedLinear::of(alloc, fact)?)?;
+    }
+    Ok(printed)
+}
+
+/// The same of facts that have the prints of their units. No unit is printed.
+#[tactic(auto, using(crate::proofs::Ordered::combination_ordered))]
+pub fn combine_printed(
+    alloc: Global,
+    facts: Vec<PrintedLinear>,
+    factors: &[u64],
+) -> Result<Linear, LinFault>
+    ensures ok { IfOk result (λ sum. combination_of facts.items factors.now ≡ Some sum) }
+    ensures ordered { IfOk result (λ sum. IsOrdered sum.parts) }
+    ensures wide { result ≡ Err LinFault.Wide → combination_of facts.items factors.now ≡ None }
+{
+    match combination(alloc, facts, factors)? {
+        Some(sum) => Ok(sum),
+        None => Err(LinFault::Wide),
     }
 }
 
 fn combination(
     alloc: Global,
-    facts: &[Linear],
+    facts: Vec<PrintedLinear>,
     factors: &[u64],
 ) -> Result<Option<Linear>, AllocError>
-    ensures { IfOk result (λ sum. sum ≡ combination_of facts.now factors.now) }
+    ensures { IfOk result (λ sum. sum ≡ combination_of facts.items factors.now) }
 {
-    let start = Form {
-        constant: 0,
-        entries: Entries {
-            items: Vec::new(alloc),
-        },
-    };
-    let Some(sum) = combined(alloc, start, facts, factors)? else {
+    let Some(sum) = combined(alloc, facts, factors)? else {
         return Ok(None);
     };
-    Ok(Some(linear_of(alloc, sum)?))
+    let linear = linear_of(alloc, sum)?;
+    Ok(Some(linear))
 }
 
-/// The form and factor times fact.
-#[tactic(auto, using(crate::proofs::Search::plus_in_order))]
+/// The sum of factor times fact, in 128 bits.
+#[tactic(auto, using(crate::proofs::Combining::beyond))]
 fn combined(
     alloc: Global,
-    form: Form,
-    facts: &[Linear],
+    facts: Vec<PrintedLinear>,
     factors: &[u64],
 ) -> Result<Option<Form>, AllocError>
-    requires { InOrder form.entries }
-    ensures { IfOk result (λ sum. sum ≡ combined_with form facts.now factors.now) }
+    ensures { IfOk result (λ sum. sum ≡ combined_with (number_form (pos 0)) facts.items factors.now) }
 {
-    let mut sum = form;
-    for i in 0..facts.len().min(factors.len()) {
-        let fact = form_of_linear(alloc, &facts[i])?;
-        match plus(Range::Machine, sum, i128::from(factors[i]), fact)? {
+    let mut sum = number_form(alloc, 0);
+    let mut i = 0;
+    for fact in facts {
+        if i >= factors.len() {
+            return Ok(Some(sum));
+        }
+        let form = fact.into_form();
+        match plus(Range::Machine, sum, i128::from(factors[i]), form)? {
             Some(more) => sum = more,
             None => return Ok(None),
         }
+        i += 1;
     }
     Ok(Some(sum))
-}
-
-/// The form of a linear form: each unit with its print.
-pub fn form_of_linear(alloc: Global, linear: &Linear) -> Result<Form, AllocError>
-    ensures { IfOk result (λ form. form ≡ form_of_linear linear.now) }
-{
-    let entries = entries_of(alloc, linear.parts.as_slice())?;
-    Ok(Form {
-        constant: linear.constant,
-        entries,
-    })
-}
-
-fn entries_of(alloc: Global, parts: &[Part]) -> Result<Entries<Entry>, AllocError>
-    ensures { IfOk result (λ entries. entries ≡ map entry_of_part parts.now) }
-{
-    let mut items = Vec::new(alloc);
-    for part in parts {
-        items.push(entry_of(alloc, part)?)?;
-    }
-    Ok(Entries { items })
-}
-
-fn entry_of(alloc: Global, part: &Part) -> Result<Entry, AllocError>
-    ensures { IfOk result (λ entry. entry ≡ entry_of_part part.now) }
-{
-    let print = Print::of(alloc, part.unit.get())?;
-    let unit = part.unit.share()?;
-    Ok(Entry {
-        unit,
-        print,
-        factor: part.factor,
-    })
 }
 
 /// The form without the prints.

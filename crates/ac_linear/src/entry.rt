@@ -1,14 +1,15 @@
 //! The working form: parts with their units' prints, so that each unit is printed once.
 ghost use Rattle.std.specs.Prelude.{◌≡◌, IfOk};
-ghost use Rattle.ac_logic.specs.Printing.{text_of_term};
+ghost use Rattle.ac_formula_printer.specs.Printing.{text_of_term};
 
-use ac_logic::{Term, print_term};
+use ac_formula_printer::print_term;
+use ac_logic::Term;
 use ac_shared::Shared;
 use std::alloc::{AllocError, Global};
 use std::marker::Model;
 
 /// The print of a unit, which contracts see as its bytes.
-#[derive(Debug, Drop)]
+#[derive(Drop)]
 pub struct Print {
     text: String,
 }
@@ -41,7 +42,7 @@ impl Print {
 }
 
 /// A part with the print of its unit, which is kept so that each unit is printed once.
-#[derive(Debug, Drop)]
+#[derive(Drop)]
 pub struct Entry {
     pub unit: Shared<Term>,
     pub print: Print,
@@ -49,7 +50,7 @@ pub struct Entry {
 }
 
 /// A `Vec` that contracts see as the list of its elements.
-#[derive(Debug, Drop)]
+#[derive(Drop)]
 pub struct Entries<T> {
     pub items: Vec<T>,
 }
@@ -66,7 +67,7 @@ impl<T> Model for Entries<T> {
 }
 
 /// A form on the way. Its entries stand in the order of their prints, but for one made of a caller's parts.
-#[derive(Debug, Drop)]
+#[derive(Drop)]
 pub struct Form {
     pub constant: i128,
     pub entries: Entries<Entry>,

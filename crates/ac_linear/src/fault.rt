@@ -1,3 +1,7 @@
+//! Why there is no linear form.
+ghost use Rattle.std.specs.Prelude.{◌≡◌};
+ghost use Rattle.ac_linear.specs.declared.fault.LinFault.TheVariants.{OutOfMemory};
+
 use std::alloc::AllocError;
 
 /// Why there is no form.
@@ -8,4 +12,12 @@ pub enum LinFault {
     Wide,
     #[error("out of memory")]
     OutOfMemory,
+}
+
+impl From<AllocError> for LinFault {
+    ghost from_gives = { λ _ e. e ≡ OutOfMemory };
+
+    fn from(_error: AllocError) -> LinFault {
+        LinFault::OutOfMemory
+    }
 }

@@ -13,12 +13,14 @@ mod laws;
 mod linear;
 mod normal_form;
 mod place;
+mod printed;
 mod range;
 mod unit;
 mod written;
 
-pub use combination::combine;
+pub use combination::{combine, combine_printed};
 pub use fault::LinFault;
 pub use laws::{combination_law, combination_order_law, normal_law, normal_order_law};
 pub use linear::{Linear, Part};
 pub use normal_form::normal;
+pub use printed::PrintedLinear;

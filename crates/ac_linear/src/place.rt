@@ -8,14 +8,14 @@ use ac_logic::same_term;
 use std::cmp::Ordering;
 
 /// A place among parts: before the one of an index, or at it, which has the same unit.
-#[derive(Clone, Copy, Debug)]
+#[derive(Clone, Copy)]
 pub enum Place {
     Before(usize),
     At(usize),
 }
 
 /// Where a part goes beside another one.
-#[derive(Clone, Copy, Debug)]
+#[derive(Clone, Copy)]
 pub enum Side {
     Before,
     Same,

@@ -3,7 +3,7 @@ ghost use Rattle.std.specs.Prelude.{◌≡◌, ◌+ℤ◌, ◌*ℤ◌};
 ghost use Rattle.ac_linear.specs.NormalForm.{within};
 
 /// Which range a number on the way must not leave.
-#[derive(Clone, Copy, Debug)]
+#[derive(Clone, Copy)]
 pub enum Range {
     /// From -2^62 to 2^62.
     Coefficient,

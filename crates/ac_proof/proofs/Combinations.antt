@@ -1,14 +1,13 @@
 -- A linear combination of facts that hold is at most 0.
-use Rattle.std.proofs.Common.{◌≡◌, ℕ, zero, suc, ℤ, pos, ◌+ℤ◌, ◌*ℤ◌, ◌-ℤ◌, ◌≤ℤ◌, List, [], ◌∷◌, ◌++◌, Option, Some, None, option_map, refl, sym, ap, ◌∙◌, subst, arith}
+use Rattle.std.proofs.Common.{◌≡◌, ℕ, zero, suc, ℤ, pos, ◌+ℤ◌, ◌*ℤ◌, ◌-ℤ◌, ◌≤ℤ◌, List, [], ◌∷◌, Option, Some, None, option_map, refl, sym, subst, arith}
 use Rattle.std.proofs.lemmas.Int.{ints}
 use Rattle.std.proofs.Math.IntN.{zero-*ℤ, suc_ℤ-*ℤ}
 use lib.Signed.{◌<ℤ◌, ≤ℤ_refl}
-use Rattle.ac_logic.specs.declared.formula.Term.{Term, Num}
 use Rattle.ac_logic.specs.declared.formula.Term.TheVariants.{Sub}
-use Rattle.ac_logic.specs.declared.formula.Formula.{Formula, False, Le}
-use Rattle.ac_logic.specs.Meaning.{Valuation, value, HoldsIn, Holds}
+use Rattle.ac_logic.specs.declared.formula.Formula.{Formula, Le}
+use Rattle.ac_logic.specs.Meaning.{Valuation, value, Holds}
 use Rattle.ac_linear.specs.declared.linear.Linear.{Linear}
-use Rattle.ac_linear.specs.NormalForm.{and_then, normal_of}
+use Rattle.ac_linear.specs.NormalForm.{and_then}
 use Rattle.ac_linear.specs.Combination.{combination_of}
 use Rattle.ac_linear.specs.LinearValue.{linear_value, parts_value, weighted}
 use Rattle.ac_linear.proofs.Values.{normal_has_value}

@@ -1,5 +1,5 @@
 -- Each rule keeps truth, and so does a checked proof.
-use Rattle.std.proofs.Common.{◌≡◌, ℕ, zero, suc, ◌+◌, ◌<◌, ℤ, pos, ◌+ℤ◌, ◌≤ℤ◌, List, [], ◌∷◌, ◌++◌, length, All, Some, slice_get, refl, sym, ◌∙◌, ap, subst, ⊎_elim, arith, nat_eq, true, false, if◌then◌else◌, get_or}
+use Rattle.std.proofs.Common.{◌≡◌, ℕ, zero, suc, ℤ, ◌≤ℤ◌, List, [], ◌∷◌, ◌++◌, All, Some, slice_get, refl, sym, ◌∙◌, subst, ⊎_elim, arith, nat_eq, true, if◌then◌else◌}
 use Rattle.std.proofs.lemmas.Bool.Decides.{nat_tests}
 use lib.Signed.{≤ℤ_refl}
 use Rattle.ac_logic.specs.declared.label.Label.{Label}
@@ -7,15 +7,14 @@ use Rattle.ac_logic.specs.declared.formula.Change.{Change}
 use Rattle.ac_logic.specs.declared.formula.Change.TheVariants as change
 use Rattle.ac_logic.specs.declared.formula.Sym.TheVariants.{Fresh}
 use Rattle.ac_logic.specs.declared.formula.Term.{Term, Num}
-use Rattle.ac_logic.specs.declared.formula.Term.TheVariants.{Read, Add}
+use Rattle.ac_logic.specs.declared.formula.Term.TheVariants.{Read}
 use Rattle.ac_logic.specs.declared.formula.ArrayTerm.{ArrayTerm}
-use Rattle.ac_logic.specs.declared.formula.ArrayTerm.TheVariants.{Put}
-use Rattle.ac_logic.specs.declared.formula.Formula.{Formula, True, False, Le, Eq}
+use Rattle.ac_logic.specs.declared.formula.Formula.{Formula, False, Le, Eq}
 use Rattle.ac_logic.specs.declared.formula.Formula.TheVariants.{Not, And, Or, Implies, All as ForAll, Lab}
 use Rattle.ac_logic.specs.Patterns.{Scalar}
 use Rattle.ac_logic.specs.Meaning.{Valuation, value, table_of, HoldsIn, Holds}
 use Rattle.ac_logic.specs.Bounds.{IsTermClosed}
-use Rattle.ac_logic.specs.Substitution.{changed, sym_eq}
+use Rattle.ac_logic.specs.Substitution.{changed}
 use Rattle.ac_logic.specs.Opening.{opened}
 use Rattle.ac_logic.specs.Absence.{IsAbsent, AreAbsent}
 use Rattle.ac_logic.proofs.Stable.{stable}
@@ -25,9 +24,9 @@ use Rattle.ac_proof.specs.declared.rule.Rule.{Rule}
 use Rattle.ac_proof.specs.declared.rule.Rule.TheVariants.{Hyp, TrueIntro, FalseElim, AndIntro, AndLeft, AndRight, OrLeft, OrRight, OrElim, ImpliesIntro, ImpliesElim, NotIntro, NotElim, Classical, AllIntro, AllElim, LabIntro, LabElim, Linear, EqLe, LeTotal, EqSplit, ReadPut, ReadSame}
 use Rattle.ac_proof.specs.Opened.{hidden, formula_shape, formula_child, term_shape, term_child, array_shape, array_child}
 use Rattle.ac_proof.specs.New.{IsNew}
-use Rattle.ac_proof.specs.Rules.{IsInstance, added, in_order, equal_or_apart, cell_of_put}
+use Rattle.ac_proof.specs.Rules.{IsInstance, contexts, in_order, equal_or_apart, cell_of_put}
 use Rattle.ac_proof.specs.declared.tree.ProofTree.{ProofTree, ProofTree', Row_of-ProofTree, end_of-ProofTree, more_of-ProofTree}
-use Rattle.ac_proof.specs.Checked.{goal_of, goals, Checked, EachChecked}
+use Rattle.ac_proof.specs.Checked.{goal_of, goals, under, later, Checked, EachChecked}
 use Rattle.ac_proof.specs.Linear.{IsLinear, next}
 use Rattle.ac_proof.specs.Soundness.{HoldAll, Follows}
 use Rattle.ac_proof.proofs.Numbers as numbers
@@ -44,13 +43,13 @@ nth w [] n g q h = cc
 nth w (x ∷ hs) zero g q h = let r : x ≡ g = cc in subst (λ y. Holds w y) r h.0
 nth w (x ∷ hs) (suc n) g q h = nth w hs n g q h.1
 
--- Each premise follows from the hypotheses and those that the rule adds; the first is number i.
-abbrev pub EachFollows : List Formula → Rule → Formula → List Formula → ℕ → List Formula → Type 0
-EachFollows hs r g ps i [] = Unit {0}
-EachFollows hs r g ps i (p ∷ qs) = Follows (hs ++ added r g ps i) p × EachFollows hs r g ps (i + 1) qs
+-- Each premise follows from the hypotheses and its context.
+abbrev pub EachFollows : List Formula → List (List Formula) → List Formula → Type 0
+EachFollows hs cs [] = Unit {0}
+EachFollows hs cs (p ∷ ps) = Follows (under hs cs) p × EachFollows hs (later cs) ps
 
 abbrev Keeps : List Formula → Rule → Formula → List Formula → Type 0
-Keeps hs r g ps = EachFollows hs r g ps 0 ps → Follows hs g
+Keeps hs r g ps = EachFollows hs (contexts r g ps) ps → Follows hs g
 
 along : (hs : List Formula) (r : Rule) {g g2 : Formula} {ps ps2 : List Formula} → g ≡ g2 → ps ≡ ps2 → Keeps hs r g2 ps2 → Keeps hs r g ps
 along hs r {g2 = g2} {ps = ps} e f m = subst (λ x. Keeps hs r x ps) (sym e) (subst (λ y. Keeps hs r g2 y) (sym f) m)
@@ -79,27 +78,27 @@ hold_absent w k n (f ∷ fs) a h = (subst (λ (X : Type 0). X) (sym (holds_absen
 module _ (hs : List Formula) where
   false_elim : (g : Formula) → Keeps hs FalseElim g (False ∷ [])
   unfolding formula_shape formula_child term_shape term_child array_shape array_child hidden
-  false_elim g each w h = absurd (each.0 w (plus w hs [] h tt))
+  false_elim g each w h = absurd (each.0 w h)
 
   and_intro : (a b : Formula) → Keeps hs AndIntro (And a b) (a ∷ b ∷ [])
   unfolding formula_shape formula_child term_shape term_child array_shape array_child hidden
-  and_intro a b each w h = (each.0 w (plus w hs [] h tt), each.1.0 w (plus w hs [] h tt))
+  and_intro a b each w h = (each.0 w h, each.1.0 w h)
 
   and_left : (g b : Formula) → Keeps hs AndLeft g (And g b ∷ [])
   unfolding formula_shape formula_child term_shape term_child array_shape array_child hidden
-  and_left g b each w h = let p = each.0 w (plus w hs [] h tt) in p.0
+  and_left g b each w h = let p = each.0 w h in p.0
 
   and_right : (g a : Formula) → Keeps hs AndRight g (And a g ∷ [])
   unfolding formula_shape formula_child term_shape term_child array_shape array_child hidden
-  and_right g a each w h = let p = each.0 w (plus w hs [] h tt) in p.1
+  and_right g a each w h = let p = each.0 w h in p.1
 
   or_left : (a b : Formula) → Keeps hs OrLeft (Or a b) (a ∷ [])
   unfolding formula_shape formula_child term_shape term_child array_shape array_child hidden
-  or_left a b each w h = λ m n. m (each.0 w (plus w hs [] h tt))
+  or_left a b each w h = λ m n. m (each.0 w h)
 
   or_right : (a b : Formula) → Keeps hs OrRight (Or a b) (b ∷ [])
   unfolding formula_shape formula_child term_shape term_child array_shape array_child hidden
-  or_right a b each w h = λ m n. n (each.0 w (plus w hs [] h tt))
+  or_right a b each w h = λ m n. n (each.0 w h)
 
   or_elim : (g a b : Formula) → Keeps hs OrElim g (Or a b ∷ g ∷ g ∷ [])
   unfolding formula_shape formula_child term_shape term_child array_shape array_child hidden
@@ -111,7 +110,7 @@ module _ (hs : List Formula) where
 
   implies_elim : (g a : Formula) → Keeps hs ImpliesElim g (Implies a g ∷ a ∷ [])
   unfolding formula_shape formula_child term_shape term_child array_shape array_child hidden
-  implies_elim g a each w h = each.0 w (plus w hs [] h tt) (each.1.0 w (plus w hs [] h tt))
+  implies_elim g a each w h = each.0 w h (each.1.0 w h)
 
   not_intro : (a : Formula) → Keeps hs NotIntro (Not a) (False ∷ [])
   unfolding formula_shape formula_child term_shape term_child array_shape array_child hidden
@@ -119,7 +118,7 @@ module _ (hs : List Formula) where
 
   not_elim : (a : Formula) → Keeps hs NotElim False (Not a ∷ a ∷ [])
   unfolding formula_shape formula_child term_shape term_child array_shape array_child hidden
-  not_elim a each w h = each.0 w (plus w hs [] h tt) (each.1.0 w (plus w hs [] h tt))
+  not_elim a each w h = each.0 w h (each.1.0 w h)
 
   classical : (g : Formula) → Keeps hs Classical g (False ∷ [])
   unfolding formula_shape formula_child term_shape term_child array_shape array_child hidden
@@ -128,30 +127,30 @@ module _ (hs : List Formula) where
   all_intro : (k : ℕ) (a : Formula) → IsNew k hs (ForAll a) → Keeps hs (AllIntro k) (ForAll a) (opened (Scalar (Fresh k)) a ∷ [])
   unfolding IsNew formula_shape formula_child term_shape term_child array_shape array_child hidden
   all_intro k a new each w h = λ n.
-      let x = each.0 (with_fresh w k n) (plus (with_fresh w k n) hs [] (hold_absent w k n hs new.0 h) tt) in
+      let x = each.0 (with_fresh w k n) (hold_absent w k n hs new.0 h) in
       let p = holds_at (with_fresh w k n) (Scalar (Fresh k)) tt [] [] 0 refl a in
       let q : HoldsIn (with_fresh w k n) (value (with_fresh w k n) [] (Scalar (Fresh k)) ∷ []) a ≡ HoldsIn (with_fresh w k n) (n ∷ []) a = λ i. HoldsIn (with_fresh w k n) (fresh_value w k n i ∷ []) a in
       subst (λ (X : Type 0). X) (p ∙ (q ∙ holds_absent (fresh_change k n) (tt, tt) w (n ∷ []) a (one_absent k n a new.1))) x
 
   all_elim : (t : Term) (a : Formula) → IsTermClosed t → Keeps hs (AllElim t) (opened t a) (ForAll a ∷ [])
   unfolding formula_shape formula_child term_shape term_child array_shape array_child hidden
-  all_elim t a c each w h = subst (λ (X : Type 0). X) (sym (holds_at w t c [] [] 0 refl a)) (each.0 w (plus w hs [] h tt) (value w [] t))
+  all_elim t a c each w h = subst (λ (X : Type 0). X) (sym (holds_at w t c [] [] 0 refl a)) (each.0 w h (value w [] t))
 
   lab_intro : (l : Label) (a : Formula) → Keeps hs LabIntro (Lab l a) (a ∷ [])
   unfolding formula_shape formula_child term_shape term_child array_shape array_child hidden
-  lab_intro l a each w h = each.0 w (plus w hs [] h tt)
+  lab_intro l a each w h = each.0 w h
 
   lab_elim : (g : Formula) (l : Label) → Keeps hs LabElim g (Lab l g ∷ [])
   unfolding formula_shape formula_child term_shape term_child array_shape array_child hidden
-  lab_elim g l each w h = each.0 w (plus w hs [] h tt)
+  lab_elim g l each w h = each.0 w h
 
   eq_le : (s t : Term) → Keeps hs EqLe (Le s t) (Eq s t ∷ [])
   unfolding formula_shape formula_child term_shape term_child array_shape array_child hidden
-  eq_le s t each w h = subst (λ x. value w [] s ≤ℤ x) (each.0 w (plus w hs [] h tt)) (≤ℤ_refl (value w [] s))
+  eq_le s t each w h = subst (λ x. value w [] s ≤ℤ x) (each.0 w h) (≤ℤ_refl (value w [] s))
 
   eq_ge : (s t : Term) → Keeps hs EqLe (Le t s) (Eq s t ∷ [])
   unfolding formula_shape formula_child term_shape term_child array_shape array_child hidden
-  eq_ge s t each w h = subst (λ x. x ≤ℤ value w [] s) (each.0 w (plus w hs [] h tt)) (≤ℤ_refl (value w [] s))
+  eq_ge s t each w h = subst (λ x. x ≤ℤ value w [] s) (each.0 w h) (≤ℤ_refl (value w [] s))
 
   le_total : (s t : Term) → Keeps hs LeTotal (in_order s t) []
   unfolding formula_shape formula_child term_shape term_child array_shape array_child hidden
@@ -167,22 +166,22 @@ module _ (hs : List Formula) where
 
   read_same : (a : ArrayTerm) (i j k l : Term) → Keeps hs ReadSame (Eq (Read a i j) (Read a k l)) (Eq i k ∷ Eq j l ∷ [])
   unfolding formula_shape formula_child term_shape term_child array_shape array_child hidden
-  read_same a i j k l each w h = λ m. table_of w [] a (each.0 w (plus w hs [] h tt) m) (each.1.0 w (plus w hs [] h tt) m)
+  read_same a i j k l each w h = λ m. table_of w [] a (each.0 w h m) (each.1.0 w h m)
 
 -- a linear step adds no hypotheses
-premises_hold : (w : Valuation) (hs : List Formula) (factors : List ℕ) (g : Formula) (ps : List Formula) (i : ℕ) (qs : List Formula) → EachFollows hs (Linear factors) g ps i qs → HoldAll w hs → HoldAll w qs
-premises_hold w hs factors g ps i [] each h = tt
-premises_hold w hs factors g ps i (q ∷ qs) each h = (each.0 w (plus w hs [] h tt), premises_hold w hs factors g ps (i + 1) qs each.1 h)
+premises_hold : (w : Valuation) (hs ps : List Formula) → EachFollows hs [] ps → HoldAll w hs → HoldAll w ps
+premises_hold w hs [] each h = tt
+premises_hold w hs (p ∷ ps) each h = (each.0 w h, premises_hold w hs ps each.1 h)
 
 linear : (hs : List Formula) (factors : List ℕ) (g : Formula) (ps : List Formula) → IsLinear factors g ps → Keeps hs (Linear factors) g ps
 unfolding formula_shape formula_child term_shape term_child array_shape array_child hidden
-linear hs factors False ps s each w h = no_contradiction w ps s.0 factors s.1 s.2 s.4 s.5 (premises_hold w hs factors False ps 0 ps each h)
+linear hs factors False ps s each w h = no_contradiction w ps s.0 factors s.1 s.2 s.4 s.5 (premises_hold w hs ps each h)
 linear hs factors (Le x y) ps s each w h =
     stable w [] (Le x y) (λ fails. numbers.in_order (value w [] x) (value w [] y) fails (λ above.
-    no_contradiction w (Le (next y) x ∷ ps) s.0 factors s.1 s.2 s.4 s.5 (above, premises_hold w hs factors (Le x y) ps 0 ps each h)))
+    no_contradiction w (Le (next y) x ∷ ps) s.0 factors s.1 s.2 s.4 s.5 (above, premises_hold w hs ps each h)))
 linear hs factors g ps s each w h = let e = s.2 in cc
 
-instance_sound : (hs : List Formula) (r : Rule) (g : Formula) (ps : List Formula) → IsInstance hs r g ps → EachFollows hs r g ps 0 ps → Follows hs g
+instance_sound : (hs : List Formula) (r : Rule) (g : Formula) (ps : List Formula) → IsInstance hs r g ps → EachFollows hs (contexts r g ps) ps → Follows hs g
 unfolding formula_shape formula_child term_shape term_child array_shape array_child hidden
 instance_sound hs (Hyp n) g ps s = λ each w h. nth w hs n g s.1 h
 instance_sound hs TrueIntro g ps s = λ each w h. subst (λ x. Holds w x) (sym s.1) tt
@@ -211,8 +210,8 @@ instance_sound hs ReadSame g ps s = along hs ReadSame s.5 s.6 (read_same hs s.0 
 
 mutual
   pub sound : (hs : List Formula) (t : ProofTree) → Checked hs t → Follows hs (goal_of t)
-  sound hs (ProofTree' r g s row) c = instance_sound hs r g (goals row) c.0.2 (row_sound hs r g (goals row) 0 row c.1)
+  sound hs (ProofTree' r g s row) c = instance_sound hs r g (goals row) c.0.2 (row_sound hs (contexts r g (goals row)) row c.1)
 
-  row_sound : {m : _} (hs : List Formula) (r : Rule) (g : Formula) (ps : List Formula) (i : ℕ) (row : Row_of-ProofTree m) → EachChecked hs r g ps i row → EachFollows hs r g ps i (goals row)
-  row_sound hs r g ps i end_of-ProofTree c = tt
-  row_sound hs r g ps i (more_of-ProofTree t row) c = (sound (hs ++ added r g ps i) t c.0, row_sound hs r g ps (i + 1) row c.1)
+  row_sound : {m : _} (hs : List Formula) (cs : List (List Formula)) (row : Row_of-ProofTree m) → EachChecked hs cs row → EachFollows hs cs (goals row)
+  row_sound hs cs end_of-ProofTree c = tt
+  row_sound hs cs (more_of-ProofTree t row) c = (sound (under hs cs) t c.0, row_sound hs (later cs) row c.1)

@@ -4,5 +4,7 @@ pub mod Linear
 pub mod Rules
 pub mod Checked
 pub mod Soundness
+pub mod Known
 pub mod Walk
+pub mod Depth
 pub mod Gathering

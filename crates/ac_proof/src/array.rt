@@ -1,5 +1,5 @@
 //! The rules of arrays.
-ghost use Rattle.std.specs.Prelude.{◌≡◌, IsTrue, ◌↔◌, map, []};
+ghost use Rattle.std.specs.Prelude.{◌≡◌, IsTrue, ◌↔◌, map, [], ◌∷◌};
 ghost use Rattle.ac_logic.specs.declared.formula.Term.TheVariants.{Read};
 ghost use Rattle.ac_logic.specs.declared.formula.Formula.{Eq};
 ghost use Rattle.ac_logic.specs.declared.formula.Formula.TheVariants.{And, Not};
@@ -58,13 +58,27 @@ fn is_old_cell(
     let Formula::And(elsewhere, kept) = formula else {
         return false
     };
-    let Formula::Not(f) = elsewhere.get() else {
+    is_denial(elsewhere.get(), here) && is_kept_cell(kept.get(), cell, a, k, l)
+}
+
+/// Whether the formula is `not f`.
+fn is_denial(formula: &Formula, f: &Formula) -> bool
+    ensures { IsTrue result ↔ (formula.now ≡ Not f.now) }
+{
+    match formula {
+        Formula::Not(g) => same(g.get(), f),
+        _ => false,
+    }
+}
+
+/// Whether the formula is `cell = a[k,l]`.
+fn is_kept_cell(formula: &Formula, cell: &Term, a: &ArrayTerm, k: &Term, l: &Term) -> bool
+    ensures { IsTrue result ↔ (formula.now ≡ Eq cell.now (Read a.now k.now l.now)) }
+{
+    let Formula::Eq(s, t) = formula else {
         return false
     };
-    let Formula::Eq(s, t) = kept.get() else {
-        return false
-    };
-    same(f.get(), here) && same_term(s.get(), cell) && is_read(t.get(), a, k, l)
+    same_term(s.get(), cell) && is_read(t.get(), a, k, l)
 }
 
 /// Whether the term is `a[k,l]`.
@@ -99,8 +113,13 @@ pub fn is_read_same(goal: &Formula, premises: &[ProofTree]) -> bool
     let Term::Read(b, k, l) = y.get() else {
         return false
     };
+    same_array(a.get(), b.get()) && are_equations(premises, i.get(), k.get(), j.get(), l.get())
+}
+
+/// Whether the premises show `i = k` and `j = l`.
+fn are_equations(premises: &[ProofTree], i: &Term, k: &Term, j: &Term, l: &Term) -> bool
+    ensures { IsTrue result ↔ (map goal_of premises.now ≡ Eq i.now k.now ∷ Eq j.now l.now ∷ []) }
+{
     let [p, q] = premises else { return false };
-    same_array(a.get(), b.get())
-        && is_equation(p.goal.get(), i.get(), k.get())
-        && is_equation(q.goal.get(), j.get(), l.get())
+    is_equation(p.goal.get(), i, k) && is_equation(q.goal.get(), j, l)
 }

@@ -2,8 +2,9 @@
 ghost use Rattle.std.specs.Prelude.{◌≡◌, [], ◌∷◌, map, slice_index_or, IfOk};
 ghost use Rattle.std.specs.Option.{option_to_list};
 ghost use Rattle.ac_logic.specs.declared.formula.Formula.TheVariants.{Not};
-ghost use Rattle.ac_proof.specs.Rules.{added, antecedent, denied, sides};
+ghost use Rattle.ac_proof.specs.Rules.{antecedent, denied, sides};
 ghost use Rattle.ac_proof.specs.Checked.{goal_of};
+ghost use Rattle.ac_proof.specs.Walk.{added};
 
 use crate::rule::Rule;
 use crate::tree::ProofTree;

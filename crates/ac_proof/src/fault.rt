@@ -1,3 +1,4 @@
+//! Why a proof is refused.
 ghost use Rattle.std.specs.Prelude.{◌≡◌};
 ghost use Rattle.ac_proof.specs.declared.fault.CheckFault.TheVariants.{OutOfMemory};
 

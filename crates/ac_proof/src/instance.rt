@@ -2,9 +2,11 @@
 ghost use Rattle.std.specs.Prelude.{IsTrue, ◌↔◌, IfOk, map};
 ghost use Rattle.ac_proof.specs.Rules.{IsInstance};
 ghost use Rattle.ac_proof.specs.Checked.{HasReadableTerm, IsStep, goal_of};
+ghost use Rattle.ac_proof.specs.Walk.{KnowsWell};
 
 use crate::arithmetic::{is_eq_le, is_eq_split, is_le_total};
 use crate::array::{is_read_put, is_read_same};
+use crate::known::Known;
 use crate::linear::is_linear;
 use crate::propositional::{
     is_and_intro, is_and_left, is_and_right, is_classical, is_false_elim, is_hyp, is_implies_elim,
@@ -18,19 +20,28 @@ use ac_logic::{Formula, is_readable, is_readable_term};
 use ac_shared::Shared;
 use std::alloc::{AllocError, Global};
 
+/// Whether a step is one. Its goal is not read where it is known to be readable, or is one of readable hypotheses.
 pub fn is_step(
     alloc: Global,
     hyps: &[Shared<Formula>],
     rule: &Rule,
     goal: &Formula,
     premises: &[ProofTree],
+    known: Known,
 ) -> Result<bool, AllocError>
+    requires { KnowsWell known hyps.now goal.now }
     ensures { IfOk result (λ holds. IsTrue holds ↔ IsStep hyps.now rule.now goal.now (map goal_of premises.now)) }
 {
-    if !is_readable(goal) || !has_readable_term(rule) {
+    if !has_readable_term(rule) || !is_instance(alloc, hyps, rule, goal, premises)? {
         return Ok(false);
     }
-    is_instance(alloc, hyps, rule, goal, premises)
+    if known.goal {
+        return Ok(true);
+    }
+    match rule {
+        Rule::Hyp { .. } => Ok(known.hyps || is_readable(goal)),
+        _ => Ok(is_readable(goal)),
+    }
 }
 
 fn has_readable_term(rule: &Rule) -> bool
@@ -66,8 +77,8 @@ fn is_instance(
         Rule::NotIntro => Ok(is_not_intro(goal, premises)),
         Rule::NotElim => Ok(is_not_elim(goal, premises)),
         Rule::Classical => Ok(is_classical(goal, premises)),
-        Rule::AllIntro { k } => is_all_intro(alloc, hyps, *k, goal, premises),
-        Rule::AllElim { t } => is_all_elim(alloc, t, goal, premises),
+        Rule::AllIntro { k } => Ok(is_all_intro(hyps, *k, goal, premises)),
+        Rule::AllElim { t } => Ok(is_all_elim(t, goal, premises)),
         Rule::LabIntro => Ok(is_lab_intro(goal, premises)),
         Rule::LabElim => Ok(is_lab_elim(goal, premises)),
         Rule::Linear { factors } => is_linear(alloc, factors.as_slice(), goal, premises),

@@ -12,19 +12,21 @@ mod certificate;
 mod check;
 mod context;
 mod fault;
+mod few;
 mod instance;
+mod known;
 mod law;
 mod linear;
+mod opening;
 mod propositional;
 mod quantifier;
 mod rule;
-#[cfg(test)]
-mod tests;
 mod tree;
 
 pub use certificate::{CertPart, Certificate, ProvedCondition};
 pub use check::check_proof;
 pub use fault::CheckFault;
+pub use few::has_few_premises;
 pub use law::soundness;
 pub use rule::Rule;
 pub use tree::{ProofTree, StepPath};

@@ -1,5 +1,5 @@
 //! The rules of `all`.
-ghost use Rattle.std.specs.Prelude.{◌≡◌, IsTrue, ◌↔◌, IfOk, IfSome, IfNone, map, [], ◌∷◌, All as Each};
+ghost use Rattle.std.specs.Prelude.{◌≡◌, IsTrue, ◌↔◌, IfSome, IfNone, map, [], ◌∷◌, All as Each};
 ghost use Rattle.ac_logic.specs.declared.formula.Formula.{Formula as AnyFormula};
 ghost use Rattle.ac_logic.specs.declared.formula.Formula.TheVariants.{All};
 ghost use Rattle.ac_logic.specs.Absence.{IsAbsent};
@@ -10,30 +10,23 @@ ghost use Rattle.ac_proof.specs.New.{IsNew};
 ghost use Rattle.ac_proof.specs.Rules.{IsInstance};
 ghost use Rattle.ac_proof.specs.Checked.{goal_of};
 
+use crate::opening::is_opening_of;
 use crate::tree::ProofTree;
-use ac_logic::{Formula, Sym, Term, is_absent, is_term_closed, open_body, same};
+use ac_logic::{Formula, Sym, Term, is_absent, is_term_closed};
 use ac_shared::Shared;
-use std::alloc::{AllocError, Global};
 
 pub fn is_all_intro(
-    alloc: Global,
     hyps: &[Shared<Formula>],
     k: u32,
     goal: &Formula,
     premises: &[ProofTree],
-) -> Result<bool, AllocError>
-    ensures { IfOk result (λ holds. IsTrue holds ↔ IsInstance hyps.now (AllIntro k) goal.now (map goal_of premises.now)) }
+) -> bool
+    ensures { IsTrue result ↔ IsInstance hyps.now (AllIntro k) goal.now (map goal_of premises.now) }
 {
-    let Formula::All(a) = goal else {
-        return Ok(false)
-    };
-    let [p] = premises else { return Ok(false) };
-    if !is_new(k, hyps, goal) {
-        return Ok(false);
-    }
-    let name = Shared::new(alloc, Term::Sym(Sym::Fresh(k)))?;
-    let opening = open_body(alloc, a, &name)?;
-    Ok(same(p.goal.get(), opening.get()))
+    let Formula::All(a) = goal else { return false };
+    let [p] = premises else { return false };
+    let name = Term::Sym(Sym::Fresh(k));
+    is_new(k, hyps, goal) && is_opening_of(a.get(), &name, p.goal.get())
 }
 
 /// Whether `#k` stands neither in the hypotheses nor in the goal.
@@ -55,19 +48,13 @@ fn is_absent_in_all(name: &Sym, formulas: &[Shared<Formula>]) -> bool
     true
 }
 
-pub fn is_all_elim(
-    alloc: Global,
-    t: &Shared<Term>,
-    goal: &Formula,
-    premises: &[ProofTree],
-) -> Result<bool, AllocError>
-    ensures { IfOk result (λ holds. IsTrue holds ↔ IsInstance [] (AllElim t.now) goal.now (map goal_of premises.now)) }
+pub fn is_all_elim(t: &Shared<Term>, goal: &Formula, premises: &[ProofTree]) -> bool
+    ensures { IsTrue result ↔ IsInstance [] (AllElim t.now) goal.now (map goal_of premises.now) }
 {
     let Some(a) = body_of(premises) else {
-        return Ok(false)
+        return false
     };
-    let opening = open_body(alloc, a, t)?;
-    Ok(is_opening(goal, &opening, a, t))
+    is_opening(goal, a, t)
 }
 
 /// What stands under the `all` of a lone premise.
@@ -82,14 +69,8 @@ fn body_of(premises: &[ProofTree]) -> Option<&Shared<Formula>>
     Some(a)
 }
 
-fn is_opening(
-    goal: &Formula,
-    opening: &Shared<Formula>,
-    a: &Shared<Formula>,
-    t: &Shared<Term>,
-) -> bool
-    requires { opening.now ≡ opened t.now a.now }
-    ensures { IsTrue result ↔ ((goal.now ≡ opened t.now a.now) × IsTermClosed t.now) }
+fn is_opening(goal: &Formula, body: &Shared<Formula>, t: &Shared<Term>) -> bool
+    ensures { IsTrue result ↔ ((goal.now ≡ opened t.now body.now) × IsTermClosed t.now) }
 {
-    same(goal, opening.get()) && is_term_closed(t.get())
+    is_opening_of(body.get(), t.get(), goal) && is_term_closed(t.get())
 }

@@ -1,9 +1,11 @@
 -- Where a formula aims at a label, the simplified formula aims at it or is `true`.
-use Rattle.std.proofs.Common.{◌≡◌, ℕ, List, [], ◌∷◌, refl, ◌⊎◌, inl, inr}
-use Rattle.ac_logic.specs.declared.formula.Formula.{Formula, True, False, Le, Eq}
+use Rattle.std.proofs.Common.{◌≡◌, ℕ, List, refl, ◌⊎◌, inl, inr}
+use Rattle.ac_logic.specs.declared.formula.Formula.{Formula, True}
 use Rattle.ac_logic.specs.declared.label.Label.{Label}
-use Rattle.ac_logic.specs.Patterns.{Negation, Conjunction, Disjunction, Implication, Every, Labelled}
+use Rattle.ac_logic.specs.Patterns.{Conjunction, Implication, Labelled}
 use Rattle.ac_logic.specs.Aim.{AimsAt}
+use Rattle.ac_simplify.specs.declared.rule.RewriteRule.{RewriteRule}
+use Rattle.ac_simplify.specs.declared.rule.RewriteRule.TheVariants.{TrueAnd, AndTrue, ImpliesTrue, LabelledTrue}
 use Rattle.ac_simplify.specs.declared.rewrite.Rewrite.{Rewrite}
 use Rattle.ac_simplify.specs.Rewriting as rewriting
 use Rattle.ac_simplify.specs.Rewriting.{Applies, AppliesAt, Replays, NoneApplies, IsSimple}
@@ -27,7 +29,7 @@ module _ (l : Label) where
   serves_aim (Conjunction f g) a = (serves_aim f a.0, serves_aim g a.1)
   serves_aim _ a = absurd a
 
-  served : {r : ℕ} {a b : Formula} → Applies r a b → Serves a → Serves b
+  served : {r : RewriteRule} {a b : Formula} → Applies r a b → Serves a → Serves b
   unfolding hidden formula_shape formula_child
   served (rewriting.true_and x) s = s.1
   served (rewriting.and_true x) s = s.0
@@ -47,7 +49,7 @@ module _ (l : Label) where
   served (rewriting.equated m n) s = absurd s
   served rewriting.every_true s = absurd s
 
-  served_at : {p : List ℕ} {r : ℕ} {a b : Formula} → AppliesAt p r a b → Serves a → Serves b
+  served_at : {p : List ℕ} {r : RewriteRule} {a b : Formula} → AppliesAt p r a b → Serves a → Serves b
   unfolding hidden formula_shape formula_child
   served_at (rewriting.at_root d) s = served d s
   served_at (rewriting.in_negation d) s = absurd s
@@ -68,18 +70,18 @@ module _ (l : Label) where
   aimed_conjunction : (a b : Formula) → NoneApplies (Conjunction a b) → (AimsAt l a ⊎ (a ≡ True)) → (AimsAt l b ⊎ (b ≡ True)) → AimsAt l (Conjunction a b) ⊎ (Conjunction a b ≡ True)
   unfolding hidden formula_shape formula_child
   aimed_conjunction a b n (inl p) (inl q) = inl (p, q)
-  aimed_conjunction a b n (inr e) q = absurd (n 1 b (rw e (rewriting.true_and b)))
-  aimed_conjunction a b n p (inr e) = absurd (n 2 a (rw e (rewriting.and_true a)))
+  aimed_conjunction a b n (inr e) q = absurd (n TrueAnd b (rw e (rewriting.true_and b)))
+  aimed_conjunction a b n p (inr e) = absurd (n AndTrue a (rw e (rewriting.and_true a)))
 
   aimed_implication : (a b : Formula) → NoneApplies (Implication a b) → (AimsAt l b ⊎ (b ≡ True)) → AimsAt l (Implication a b) ⊎ (Implication a b ≡ True)
   unfolding hidden formula_shape formula_child
   aimed_implication a b n (inl p) = inl p
-  aimed_implication a b n (inr e) = absurd (n 11 True (rw e (rewriting.implies_true a)))
+  aimed_implication a b n (inr e) = absurd (n ImpliesTrue True (rw e (rewriting.implies_true a)))
 
   aimed_label : (m : Label) (a : Formula) → NoneApplies (Labelled m a) → (AimsAt l a ⊎ (a ≡ True)) → AimsAt l (Labelled m a) ⊎ (Labelled m a ≡ True)
   unfolding hidden formula_shape formula_child
   aimed_label m a n (inl p) = inl (inr p)
-  aimed_label m a n (inr e) = absurd (n 15 True (rw e (rewriting.labelled_true m)))
+  aimed_label m a n (inr e) = absurd (n LabelledTrue True (rw e (rewriting.labelled_true m)))
 
   aimed : (a : Formula) → IsSimple a → Serves a → AimsAt l a ⊎ (a ≡ True)
   unfolding hidden formula_shape formula_child

@@ -1,12 +1,12 @@
 -- A rewrite changes no truth and brings no label.
-use Rattle.std.proofs.Common.{◌≡◌, ℕ, ℤ, List, [], ◌∷◌, Bool, true, false, T, refl, sym, subst, ◌≤ℤ◌}
+use Rattle.std.proofs.Common.{◌≡◌, ℕ, ℤ, List, ◌∷◌, Bool, true, false, T, refl, sym, subst, ◌≤ℤ◌}
 use Rattle.std.specs.Ordering.{int_eq}
 use Rattle.std.proofs.lemmas.Bool.Decides.{Decides-int_eq}
 use lib.Signed.{le_z}
-use Rattle.ac_logic.specs.declared.formula.Formula.{Formula, True, False, Le, Eq}
-use Rattle.ac_logic.specs.Patterns.{Negation, Conjunction, Disjunction, Implication, Every, Labelled}
+use Rattle.ac_logic.specs.declared.formula.Formula.{Formula}
 use Rattle.ac_logic.specs.Meaning.{Valuation, HoldsIn}
 use Rattle.ac_logic.proofs.Stable.{stable}
+use Rattle.ac_simplify.specs.declared.rule.RewriteRule.{RewriteRule}
 use Rattle.ac_simplify.specs.declared.rewrite.Rewrite.{Rewrite}
 use Rattle.ac_simplify.specs.Rewriting as rewriting
 use Rattle.ac_simplify.specs.Rewriting.{truth, Applies, AppliesAt, Replays}
@@ -27,7 +27,7 @@ module _ (w : Valuation) where
   eq_truth e m n true s = (λ _. tt, λ _. (Decides-int_eq m n).0 (cc))
   eq_truth e m n false s = (λ p. let q = (Decides-int_eq m n).1 p in cc, λ f. absurd f)
 
-  holds_alike : (e : List ℤ) {r : ℕ} {a b : Formula} → Applies r a b → Alike e a b
+  holds_alike : (e : List ℤ) {r : RewriteRule} {a b : Formula} → Applies r a b → Alike e a b
   unfolding hidden formula_shape formula_child term_shape term_child array_shape array_child
   holds_alike e (rewriting.true_and x) = (λ p. p.1, λ p. (tt, p))
   holds_alike e (rewriting.and_true x) = (λ p. p.0, λ p. (p, tt))
@@ -47,7 +47,7 @@ module _ (w : Valuation) where
   holds_alike e (rewriting.labelled_true l) = (λ p. p, λ p. p)
   holds_alike e rewriting.every_true = (λ _. tt, λ _ _. tt)
 
-  holds_alike_at : (e : List ℤ) {p : List ℕ} {r : ℕ} {a b : Formula} → AppliesAt p r a b → Alike e a b
+  holds_alike_at : (e : List ℤ) {p : List ℕ} {r : RewriteRule} {a b : Formula} → AppliesAt p r a b → Alike e a b
   unfolding hidden formula_shape formula_child
   holds_alike_at e (rewriting.at_root d) = holds_alike e d
   holds_alike_at e (rewriting.in_negation d) = let k = holds_alike_at e d in (λ n x. n (k.1 x), λ n x. n (k.0 x))

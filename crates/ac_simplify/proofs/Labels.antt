@@ -6,6 +6,7 @@ use Rattle.std.proofs.lemmas.List.Elements.{Contains-append_left, Contains-appen
 use Rattle.ac_logic.specs.declared.formula.Formula.{Formula}
 use Rattle.ac_logic.specs.declared.label.Label.{Label}
 use Rattle.ac_logic.specs.Labels.{labels_of}
+use Rattle.ac_simplify.specs.declared.rule.RewriteRule.{RewriteRule}
 use Rattle.ac_simplify.specs.declared.rewrite.Rewrite.{Rewrite}
 use Rattle.ac_simplify.specs.Rewriting as rewriting
 use Rattle.ac_simplify.specs.Rewriting.{truth, Applies, AppliesAt, Replays}
@@ -30,7 +31,7 @@ unfolding hidden formula_shape formula_child
 truth_within true ys l c = absurd (nothing l c)
 truth_within false ys l c = absurd (nothing l c)
 
-labels_within : {r : ℕ} {a b : Formula} → Applies r a b → Within (labels_of b) (labels_of a)
+labels_within : {r : RewriteRule} {a b : Formula} → Applies r a b → Within (labels_of b) (labels_of a)
 unfolding hidden formula_shape formula_child
 labels_within (rewriting.true_and x) l c = c
 labels_within (rewriting.and_true x) l c = Contains-append_left (labels_of x) [] l c
@@ -50,7 +51,7 @@ labels_within (rewriting.equated m n) l c = truth_within (int_eq m n) [] l c
 labels_within (rewriting.labelled_true m) l c = absurd (nothing l c)
 labels_within rewriting.every_true l c = absurd (nothing l c)
 
-labels_within_at : {p : List ℕ} {r : ℕ} {a b : Formula} → AppliesAt p r a b → Within (labels_of b) (labels_of a)
+labels_within_at : {p : List ℕ} {r : RewriteRule} {a b : Formula} → AppliesAt p r a b → Within (labels_of b) (labels_of a)
 unfolding hidden formula_shape formula_child
 labels_within_at (rewriting.at_root d) = labels_within d
 labels_within_at (rewriting.in_negation d) = labels_within_at d

@@ -4,7 +4,7 @@ use Rattle.std.proofs.lemmas.List.{map-append}
 use Rattle.ac_logic.specs.declared.formula.Formula.{Formula, True, False, Le, Eq}
 use Rattle.ac_logic.specs.Patterns.{Negation, Conjunction, Disjunction, Implication, Every, Labelled}
 use Rattle.ac_simplify.specs.declared.rewrite.Rewrite.{Rewrite}
-use Rattle.ac_simplify.specs.Order.{below, first_rule, first_rewrite, settled, settling, simplified, inside, rewrites_of, inside_rewrites}
+use Rattle.ac_simplify.specs.Order.{below, settled, settling, simplified, inside, rewrites_of, inside_rewrites}
 use Rattle.ac_simplify.specs.Opened.{hidden, formula_shape, formula_child}
 
 -- what is popped after a push leaves the path as it was

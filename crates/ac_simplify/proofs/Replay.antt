@@ -1,5 +1,5 @@
 -- The rewrites in their order lead to the simplified formula, to which no rule applies.
-use Rattle.std.proofs.Common.{ℕ, List, [], ◌∷◌, ◌++◌, map, Some, None, Bool, true, false, int_le}
+use Rattle.std.proofs.Common.{List, [], ◌∷◌, ◌++◌, map, Some, None, Bool, true, false, int_le}
 use Rattle.std.specs.Ordering.{int_eq}
 use Rattle.ac_logic.specs.declared.formula.Term.{Term, Num}
 use Rattle.ac_logic.specs.declared.formula.Formula.{Formula, True, False, Le, Eq}

@@ -1,56 +1,58 @@
 -- The order of rewrites: from the leaves up, the left side first, at each place the first rule of the table.
-use Rattle.std.specs.Prelude.{ℕ, List, [], ◌∷◌, ◌++◌, map, Option, Some, None, ℤ, int_le}
+use Rattle.std.specs.Prelude.{ℕ, List, [], ◌∷◌, ◌++◌, map, Option, Some, None, int_le}
 use Rattle.std.specs.Ordering.{int_eq}
 use Rattle.ac_logic.specs.declared.formula.Term.{Term, Num}
 use Rattle.ac_logic.specs.declared.formula.Formula.{Formula, True, False, Le, Eq}
 use Rattle.ac_simplify.specs.declared.rewrite.Rewrite.{Rewrite}
+use Rattle.ac_simplify.specs.declared.rule.RewriteRule.{RewriteRule}
+use Rattle.ac_simplify.specs.declared.rule.RewriteRule.TheVariants.{TrueAnd, AndTrue, FalseAnd, AndFalse, TrueOr, OrTrue, FalseOr, OrFalse, TrueImplies, FalseImplies, ImpliesTrue, NotTrue, NotFalse, Compared, LabelledTrue, AllTrue}
 use Rattle.ac_logic.specs.Patterns.{Negation, Conjunction, Disjunction, Implication, Every, Labelled}
 use Rattle.ac_simplify.specs.Rewriting.{truth}
 use Rattle.ac_simplify.specs.Opened.{hidden, formula_shape, formula_child}
 
--- the number of a rule and its result
+-- a rule and its result
 abbrev pub Reduct : Type 0
-Reduct = Option (ℕ × Formula)
+Reduct = Option (RewriteRule × Formula)
 
 abbrev pub first_negation : Formula → Reduct
-first_negation True = Some (12, False)
-first_negation False = Some (13, True)
+first_negation True = Some (NotTrue, False)
+first_negation False = Some (NotFalse, True)
 first_negation a = None
 
 abbrev pub first_conjunction : Formula → Formula → Reduct
-first_conjunction True b = Some (1, b)
-first_conjunction a True = Some (2, a)
-first_conjunction False b = Some (3, False)
-first_conjunction a False = Some (4, False)
+first_conjunction True b = Some (TrueAnd, b)
+first_conjunction a True = Some (AndTrue, a)
+first_conjunction False b = Some (FalseAnd, False)
+first_conjunction a False = Some (AndFalse, False)
 first_conjunction a b = None
 
 abbrev pub first_disjunction : Formula → Formula → Reduct
-first_disjunction True b = Some (5, True)
-first_disjunction a True = Some (6, True)
-first_disjunction False b = Some (7, b)
-first_disjunction a False = Some (8, a)
+first_disjunction True b = Some (TrueOr, True)
+first_disjunction a True = Some (OrTrue, True)
+first_disjunction False b = Some (FalseOr, b)
+first_disjunction a False = Some (OrFalse, a)
 first_disjunction a b = None
 
 abbrev pub first_implication : Formula → Formula → Reduct
-first_implication True b = Some (9, b)
-first_implication False b = Some (10, True)
-first_implication a True = Some (11, True)
+first_implication True b = Some (TrueImplies, b)
+first_implication False b = Some (FalseImplies, True)
+first_implication a True = Some (ImpliesTrue, True)
 first_implication a b = None
 
 abbrev pub first_le : Term → Term → Reduct
-first_le (Num m) (Num n) = Some (14, truth (int_le m n))
+first_le (Num m) (Num n) = Some (Compared, truth (int_le m n))
 first_le s t = None
 
 abbrev pub first_eq : Term → Term → Reduct
-first_eq (Num m) (Num n) = Some (14, truth (int_eq m n))
+first_eq (Num m) (Num n) = Some (Compared, truth (int_eq m n))
 first_eq s t = None
 
 abbrev pub first_labelled : Formula → Reduct
-first_labelled True = Some (15, True)
+first_labelled True = Some (LabelledTrue, True)
 first_labelled a = None
 
 abbrev pub first_every : Formula → Reduct
-first_every True = Some (16, True)
+first_every True = Some (AllTrue, True)
 first_every a = None
 
 -- the first rule that applies at the root

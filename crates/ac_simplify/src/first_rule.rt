@@ -3,12 +3,13 @@ ghost use Rattle.std.specs.Prelude.{◌≡◌, IfOk};
 ghost use Rattle.ac_simplify.specs.Rewriting.{truth as truth_of};
 ghost use Rattle.ac_simplify.specs.Order.{first_negation, first_conjunction, first_disjunction, first_implication, first_le, first_eq, first_labelled, first_every, first_rule as first_rule_of};
 
+use crate::rule::RewriteRule;
 use ac_logic::{Formula, Term};
 use ac_shared::Shared;
 use std::alloc::{AllocError, Global};
 
-/// The number of a rule, and what it makes of a formula.
-type Reduct = Option<(u8, Shared<Formula>)>;
+/// A rule, and what it makes of a formula.
+type Reduct = Option<(RewriteRule, Shared<Formula>)>;
 
 /// The first rule that applies at the root with its result; none where no rule applies there.
 pub fn first_rule(alloc: Global, formula: &Formula) -> Result<Reduct, AllocError>
@@ -44,7 +45,7 @@ fn at_le(alloc: Global, s: &Term, t: &Term) -> Result<Reduct, AllocError>
     match (s, t) {
         (Term::Num(m), Term::Num(n)) => {
             let value = truth(alloc, *m <= *n)?;
-            Ok(Some((14, value)))
+            Ok(Some((RewriteRule::Compared, value)))
         }
         _ => Ok(None),
     }
@@ -56,7 +57,7 @@ fn at_eq(alloc: Global, s: &Term, t: &Term) -> Result<Reduct, AllocError>
     match (s, t) {
         (Term::Num(m), Term::Num(n)) => {
             let value = truth(alloc, *m == *n)?;
-            Ok(Some((14, value)))
+            Ok(Some((RewriteRule::Compared, value)))
         }
         _ => Ok(None),
     }
@@ -68,11 +69,11 @@ fn at_negation(alloc: Global, f: &Formula) -> Result<Reduct, AllocError>
     match f {
         Formula::True => {
             let value = truth(alloc, false)?;
-            Ok(Some((12, value)))
+            Ok(Some((RewriteRule::NotTrue, value)))
         }
         Formula::False => {
             let value = truth(alloc, true)?;
-            Ok(Some((13, value)))
+            Ok(Some((RewriteRule::NotFalse, value)))
         }
         _ => Ok(None),
     }
@@ -88,19 +89,19 @@ fn at_conjunction(
     match (f.get(), g.get()) {
         (Formula::True, _) => {
             let other = g.share()?;
-            Ok(Some((1, other)))
+            Ok(Some((RewriteRule::TrueAnd, other)))
         }
         (_, Formula::True) => {
             let other = f.share()?;
-            Ok(Some((2, other)))
+            Ok(Some((RewriteRule::AndTrue, other)))
         }
         (Formula::False, _) => {
             let value = truth(alloc, false)?;
-            Ok(Some((3, value)))
+            Ok(Some((RewriteRule::FalseAnd, value)))
         }
         (_, Formula::False) => {
             let value = truth(alloc, false)?;
-            Ok(Some((4, value)))
+            Ok(Some((RewriteRule::AndFalse, value)))
         }
         _ => Ok(None),
     }
@@ -116,19 +117,19 @@ fn at_disjunction(
     match (f.get(), g.get()) {
         (Formula::True, _) => {
             let value = truth(alloc, true)?;
-            Ok(Some((5, value)))
+            Ok(Some((RewriteRule::TrueOr, value)))
         }
         (_, Formula::True) => {
             let value = truth(alloc, true)?;
-            Ok(Some((6, value)))
+            Ok(Some((RewriteRule::OrTrue, value)))
         }
         (Formula::False, _) => {
             let other = g.share()?;
-            Ok(Some((7, other)))
+            Ok(Some((RewriteRule::FalseOr, other)))
         }
         (_, Formula::False) => {
             let other = f.share()?;
-            Ok(Some((8, other)))
+            Ok(Some((RewriteRule::OrFalse, other)))
         }
         _ => Ok(None),
     }
@@ -144,15 +145,15 @@ fn at_implication(
     match (f.get(), g.get()) {
         (Formula::True, _) => {
             let other = g.share()?;
-            Ok(Some((9, other)))
+            Ok(Some((RewriteRule::TrueImplies, other)))
         }
         (Formula::False, _) => {
             let value = truth(alloc, true)?;
-            Ok(Some((10, value)))
+            Ok(Some((RewriteRule::FalseImplies, value)))
         }
         (_, Formula::True) => {
             let value = truth(alloc, true)?;
-            Ok(Some((11, value)))
+            Ok(Some((RewriteRule::ImpliesTrue, value)))
         }
         _ => Ok(None),
     }
@@ -164,7 +165,7 @@ fn at_label(alloc: Global, f: &Formula) -> Result<Reduct, AllocError>
     match f {
         Formula::True => {
             let value = truth(alloc, true)?;
-            Ok(Some((15, value)))
+            Ok(Some((RewriteRule::LabelledTrue, value)))
         }
         _ => Ok(None),
     }
@@ -176,7 +177,7 @@ fn at_every(alloc: Global, f: &Formula) -> Result<Reduct, AllocError>
     match f {
         Formula::True => {
             let value = truth(alloc, true)?;
-            Ok(Some((16, value)))
+            Ok(Some((RewriteRule::AllTrue, value)))
         }
         _ => Ok(None),
     }

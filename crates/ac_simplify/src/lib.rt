@@ -3,9 +3,9 @@
 
 mod first_rule;
 mod rewrite;
-#[cfg(test)]
-mod tests;
+mod rule;
 mod walk;
 
 pub use rewrite::{Rewrite, Simplified};
+pub use rule::RewriteRule;
 pub use walk::simplify;

@@ -1,4 +1,4 @@
-//! The walk from the leaves up.
+//! The walk from the leaves up, which keeps its place and notes each rewrite.
 ghost use Rattle.std.specs.Prelude.{◌≡◌, ℕ, List, ◌++◌, ◌∷◌, [], map, IfOk, MatchOption, OnOk, None};
 ghost use Rattle.std.specs.Prelude.{ℤ, ◌↔◌, ◌⊎◌};
 ghost use Rattle.std.specs.List.{Contains};
@@ -13,6 +13,7 @@ ghost use Rattle.ac_simplify.specs.Order.{below, simplified, rewrites_of, settle
 
 use crate::first_rule::first_rule;
 use crate::rewrite::{Rewrite, Simplified};
+use crate::rule::RewriteRule;
 use ac_logic::Formula;
 use ac_shared::Shared;
 use sqlite_items::Items;
@@ -40,7 +41,7 @@ impl Walk {
         let _ = self.path.pop();
     }
 
-    fn note(&mut self, alloc: Global, rule: u8) -> Result<(), AllocError>
+    fn note(&mut self, alloc: Global, rule: RewriteRule) -> Result<(), AllocError>
         ensures path { OnOk result (self.new.path ≡ self.old.path) }
         ensures rewrites { OnOk result (self.new.rewrites ≡ self.old.rewrites ++ record { path = self.old.path; rule = rule } ∷ []) }
     {

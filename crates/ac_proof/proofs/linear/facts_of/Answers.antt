@@ -1,4 +1,4 @@
-use Rattle.std.proofs.Common.{◌≡◌, [], map, true, false, Some, None, sym, ap, ◌∙◌}
+use Rattle.std.proofs.Common.{◌≡◌, [], map, true, false, Some, sym, ap, ◌∙◌}
 use Rattle.ac_linear.specs.NormalForm.{and_then}
 use Rattle.ac_proof.specs.Checked.{goal_of}
 use Rattle.ac_proof.specs.Linear.{denial}

@@ -1,4 +1,4 @@
-use Rattle.std.proofs.Common.{◌≡◌, true, rules}
+use Rattle.std.proofs.Common.{rules}
 use Rattle.ac_proof.specs.New.{IsNew}
 use Rattle.ac_proof.proofs.quantifier.is_new.Goals as goal
 
