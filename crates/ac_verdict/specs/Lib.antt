@@ -1,0 +1,9 @@
+pub mod AcceptedProgram
+pub mod Causes
+pub mod Headline
+pub mod Opened
+pub mod Policy
+pub mod Report
+pub mod Sites
+pub mod Supported
+pub mod Writes
