@@ -1,7 +1,3 @@
-pub mod Extents
-pub mod Lists
-pub mod OneVerdict
-pub mod Reports
-pub mod Statements
-pub mod Verdicts
+pub mod Endings
+pub mod Held
 pub mod WordsLemmas

@@ -1,11 +1,5 @@
-pub mod Building
-pub mod Built
 pub mod Causes
-pub mod Headline
-pub mod Opened
-pub mod Policy
+pub mod Ends
 pub mod Report
-pub mod Sites
 pub mod Status
 pub mod Words
-pub mod Writes

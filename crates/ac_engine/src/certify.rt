@@ -1,132 +1,101 @@
-//! The top call: the words, the files, the verdict, the report.
+//! The top call: the words, the files, the outcome of their bytes, the report.
 
-ghost use Rattle.std.specs.Prelude.{◌≡◌, ◌≢◌, ℕ, List, IfOk};
+ghost use Rattle.std.specs.Prelude.{◌≡◌, ◌≢◌};
 ghost use Rattle.ac_io.specs.Contents.{SameContents};
 ghost use Rattle.ac_io.specs.Counts.{Rose};
-ghost use Rattle.ac_io.specs.Written.{Adds, AddsPrefix};
-ghost use Rattle.ac_tree.specs.declared.limit.LimitKind.{LimitKind};
-ghost use Rattle.ac_tree.specs.declared.node.Node.{Node};
-ghost use Rattle.ac_engine.specs.declared.outcome.Outcome.{Outcome};
-ghost use Rattle.ac_engine.specs.declared.program_fault.ProgramFault.{ProgramFault};
-ghost use Rattle.ac_engine.specs.Building.{Builds};
-ghost use Rattle.ac_engine.specs.Causes.{Comes, MayCome};
-ghost use Rattle.ac_engine.specs.Headline.{IsVerdict};
-ghost use Rattle.ac_engine.specs.Report.{report};
+ghost use Rattle.ac_engine.specs.Causes.{Comes, MayCome, Certifies};
+ghost use Rattle.ac_engine.specs.Ends.{Reports, StopsShort};
 ghost use Rattle.ac_engine.specs.Words.{texts, HasNoForm};
 
-use crate::building::{Built, build};
-use crate::outcome::Outcome;
-use crate::policy::is_bounds;
-use crate::report::report;
+use crate::answer::Answer;
 use crate::status::Status;
 use crate::words::asked;
 use ac_io::{Files, LoadFault, Sink, SinkFault};
 use ac_tree::LimitKind;
-use sqlite_items::Items;
-use std::alloc::{AllocError, Global};
-
-/// The bytes that a program has at most.
-const PROGRAM_BYTES: u64 = 1_048_576;
-
-/// The bytes that a policy file has at most.
-const POLICY_BYTES: u64 = 262_144;
+use ac_verdict::{Outcome, judge, read_program};
+use std::alloc::Global;
 
 /// Certifies a program under a policy: `certify PROGRAM POLICY CERT`, where CERT is none of the two other names.
 ///
-/// It reports on `out` and saves no file. Each status comes only as its clause says. A program that is built has no cause
-/// for the statuses Program and Limit, and none for both Accepted and Rejected (`a_built_program_has_one_verdict`).
+/// It reports on `out` and saves no file. Beside want of memory and a fault of `out`, the report is the text of an answer
+/// that has its cause, and the status is that of the answer.
 pub fn autocert<F: Files, S: Sink>(
     alloc: Global,
     words: &[String],
     files: &mut F,
     out: &mut S,
 ) -> Status
-    ensures accepted { result ≡ Status.Accepted → (k : ℕ) × Comes (F.contents files.old) (F.load_faults files.old) (F.load_faults files.new) (texts words.now) (Outcome.Accepted k) × Adds (S.written out.old) (S.written out.new) (report (Outcome.Accepted k)) }
-    ensures rejected { result ≡ Status.Rejected → (k : ℕ) × (nodes : List Node) × Comes (F.contents files.old) (F.load_faults files.old) (F.load_faults files.new) (texts words.now) (Outcome.Rejected k nodes) × Adds (S.written out.old) (S.written out.new) (report (Outcome.Rejected k nodes)) }
-    ensures usage { result ≡ Status.Usage → HasNoForm (texts words.now) × Adds (S.written out.old) (S.written out.new) (report Outcome.Usage) }
-    ensures program { result ≡ Status.Program → (fault : ProgramFault) × Comes (F.contents files.old) (F.load_faults files.old) (F.load_faults files.new) (texts words.now) (Outcome.Program fault) × Adds (S.written out.old) (S.written out.new) (report (Outcome.Program fault)) }
-    ensures limit { result ≡ Status.Limit → (which : LimitKind) × (value : ℕ) × Comes (F.contents files.old) (F.load_faults files.old) (F.load_faults files.new) (texts words.now) (Outcome.Limit which value) × Adds (S.written out.old) (S.written out.new) (report (Outcome.Limit which value)) }
-    ensures policy { result ≡ Status.Policy → Comes (F.contents files.old) (F.load_faults files.old) (F.load_faults files.new) (texts words.now) Outcome.Policy × Adds (S.written out.old) (S.written out.new) (report Outcome.Policy) }
-    ensures read_fault { result ≡ Status.ReadFault → Comes (F.contents files.old) (F.load_faults files.old) (F.load_faults files.new) (texts words.now) Outcome.ReadFault × Adds (S.written out.old) (S.written out.new) (report Outcome.ReadFault) }
-    ensures write_fault { result ≡ Status.WriteFault → Rose (S.faults out.old) (S.faults out.new) × ((o : Outcome) × Comes (F.contents files.old) (F.load_faults files.old) (F.load_faults files.new) (texts words.now) o × AddsPrefix (S.written out.old) (S.written out.new) (report o)) }
+    ensures accepted { result ≡ Status.Accepted → Certifies (F.contents files.old) (texts words.now) }
+    ensures reported { result ≢ Status.Memory → result ≢ Status.WriteFault → Reports (Comes (F.contents files.old) (F.load_faults files.old) (F.load_faults files.new) (texts words.now)) (S.written out.old) (S.written out.new) result }
+    ensures stopped { result ≡ Status.WriteFault → StopsShort (Comes (F.contents files.old) (F.load_faults files.old) (F.load_faults files.new) (texts words.now)) (S.written out.old) (S.written out.new) }
+    ensures write_fault { result ≡ Status.WriteFault → Rose (S.faults out.old) (S.faults out.new) }
     ensures memory { result ≡ Status.Memory → S.written out.new ≡ S.written out.old }
     ensures certificate { result ≢ Status.Certificate }
     ensures contents_stay { SameContents (F.contents files.old) (F.contents files.new) }
     ensures nothing_loaded { HasNoForm (texts words.now) → files.new ≡ files.old }
 {
-    let Ok(outcome) = outcome(alloc, words, files) else {
+    let answer = answer(alloc, words, files);
+    let status = answer.status();
+    if let Status::Memory = status {
         return Status::Memory;
-    };
-    let Ok(text) = report(alloc, &outcome) else {
+    }
+    let Ok(text) = answer.report(alloc) else {
         return Status::Memory;
     };
     match out.put(text.as_bytes()) {
-        Ok(()) => outcome.status(),
+        Ok(()) => status,
         Err(SinkFault::Failed) => Status::WriteFault,
         Err(SinkFault::OutOfMemory) => Status::Memory,
     }
 }
 
-/// The outcome of a call with these words.
-fn outcome<F: Files>(alloc: Global, words: &[String], files: &mut F) -> Result<Outcome, AllocError>
-    ensures cause { IfOk result (Comes (F.contents files.old) (F.load_faults files.old) (F.load_faults files.new) (texts words.now)) }
+/// The answer to these words.
+fn answer<F: Files>(alloc: Global, words: &[String], files: &mut F) -> Answer
+    ensures cause { Comes (F.contents files.old) (F.load_faults files.old) (F.load_faults files.new) (texts words.now) result }
     ensures contents_stay { SameContents (F.contents files.old) (F.contents files.new) }
     ensures nothing_loaded { HasNoForm (texts words.now) → files.new ≡ files.old }
 {
     match asked(words) {
-        None => Ok(Outcome::Usage),
+        None => Answer::Usage,
         Some(request) => certified(alloc, request.program, request.policy, files),
     }
 }
 
-/// The outcome of a call with this program and this policy file.
-fn certified<F: Files>(
-    alloc: Global,
-    program: &str,
-    policy: &str,
-    files: &mut F,
-) -> Result<Outcome, AllocError>
-    ensures cause { IfOk result (MayCome (F.contents files.old) (F.load_faults files.old) (F.load_faults files.new) program.now policy.now) }
+/// The answer to a call with these names: the program is loaded and read, and only then the policy file.
+fn certified<F: Files>(alloc: Global, program: &str, policy: &str, files: &mut F) -> Answer
+    ensures cause { MayCome (F.contents files.old) (F.load_faults files.old) (F.load_faults files.new) program.now policy.now result }
     ensures contents_stay { SameContents (F.contents files.old) (F.contents files.new) }
 {
-    let bytes = match files.load(alloc, program, PROGRAM_BYTES) {
+    let bytes = match files.load(alloc, program, LimitKind::ProgramBytes.number()) {
         Ok(bytes) => bytes,
         Err(LoadFault::Long) => {
-            return Ok(Outcome::Limit {
-                which: LimitKind::ProgramBytes,
-                value: PROGRAM_BYTES,
-            });
+            let which = LimitKind::ProgramBytes;
+            let value = which.number();
+            let outcome = Outcome::Limit { which, value };
+            return Answer::Judged { outcome };
         }
-        Err(LoadFault::Failed) => return Ok(Outcome::ReadFault),
-        Err(LoadFault::OutOfMemory) => return Err(AllocError),
+        Err(LoadFault::Failed) => return Answer::ReadFault,
+        Err(LoadFault::OutOfMemory) => {
+            let outcome = Outcome::OutOfMemory;
+            return Answer::Judged { outcome };
+        }
     };
-    let built = match build(alloc, bytes.as_slice())? {
-        Ok(built) => built,
-        Err(refusal) => return Ok(refusal),
+    let accepted = match read_program(alloc, bytes.as_slice()) {
+        Ok(accepted) => accepted,
+        Err(outcome) => return Answer::Judged { outcome },
     };
-    let bytes = match files.load(alloc, policy, POLICY_BYTES) {
+    let bytes = match files.load(alloc, policy, LimitKind::PolicyBytes.number()) {
         Ok(bytes) => bytes,
-        Err(LoadFault::Long) => return Ok(Outcome::Policy),
-        Err(LoadFault::Failed) => return Ok(Outcome::ReadFault),
-        Err(LoadFault::OutOfMemory) => return Err(AllocError),
+        Err(LoadFault::Long) => {
+            let outcome = Outcome::Policy;
+            return Answer::Judged { outcome };
+        }
+        Err(LoadFault::Failed) => return Answer::ReadFault,
+        Err(LoadFault::OutOfMemory) => {
+            let outcome = Outcome::OutOfMemory;
+            return Answer::Judged { outcome };
+        }
     };
-    if !is_bounds(bytes.as_slice()) {
-        return Ok(Outcome::Policy);
-    }
-    Ok(verdict(built))
-}
-
-/// Whether all conditions of the program are proved.
-fn verdict(built: Built) -> Outcome
-    ensures { (bytes : List ℕ) → Builds bytes built.program built.unproved.items → IsVerdict bytes result }
-{
-    let conditions = built.program.body.len();
-    let unproved = Items::from_vec(built.unproved);
-    if unproved.is_empty() {
-        return Outcome::Accepted { conditions };
-    }
-    Outcome::Rejected {
-        conditions,
-        unproved,
-    }
+    let outcome = judge(alloc, &accepted, bytes.as_slice());
+    Answer::Judged { outcome }
 }

@@ -1,8 +1,10 @@
+//! How a call ended.
+
 ghost use Rattle.std.specs.Prelude.{◌≡◌};
 ghost use Rattle.ac_engine.specs.Status.{code_of};
 
 /// How a call ended.
-#[derive(Clone, Copy, Debug, PartialEq, Eq)]
+#[derive(Clone, Copy)]
 pub enum Status {
     /// No run of the program violates the policy.
     Accepted,
@@ -10,9 +12,9 @@ pub enum Status {
     Rejected,
     /// The words have no stated form.
     Usage,
-    /// The bytes are no program, break a rule, or are those of a program that is not built.
+    /// The program is refused.
     Program,
-    /// The policy is not built.
+    /// The policy is not supported.
     Policy,
     /// A file can't be read.
     ReadFault,

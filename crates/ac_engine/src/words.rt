@@ -1,11 +1,16 @@
+//! What the words of a call ask for.
+
 ghost use Rattle.std.specs.Prelude.{◌≡◌, ◌↔◌, IsTrue, MatchOption};
 ghost use Rattle.ac_engine.specs.Words.{texts, Asks, HasNoForm};
 
 /// What the words of a call ask for: the names of the program, of the policy file and of the certificate.
-#[derive(Clone, Copy, Debug)]
+#[derive(Clone, Copy)]
 pub struct Request<'a> {
+    /// The name of the program.
     pub program: &'a str,
+    /// The name of the policy file.
     pub policy: &'a str,
+    /// The name of the certificate.
     pub certificate: &'a str,
 }
 

@@ -1,6 +1,6 @@
-use Rattle.std.proofs.Common.{rules, refl, ◌≡◌, ap, List, ℕ, string_bytes, sym, ◌∙◌}
-use Rattle.ac_engine.specs.Words.{texts, Asks, HasNoForm}
-use Rattle.ac_engine.proofs.WordsLemmas.{four, not_four}
+use Rattle.std.proofs.Common.{rules, refl, ap}
+use Rattle.ac_engine.specs.Words.{texts}
+use Rattle.ac_engine.proofs.WordsLemmas.{four}
 use Rattle.ac_engine.proofs.words.asked.Goals as goal
 
 pub returns-then-is : goal.returns-then-is
