@@ -1,3 +1,5 @@
+//! Files by name: what a caller may rely on of every implementation.
+
 ghost use Rattle.std.specs.Prelude.{◌≡◌, ℕ, ◌<◌, ◌≤◌, ◌^◌, List, Option, IfOk, OnOk, vec_len};
 ghost use Rattle.std.specs.Option.{ForSome};
 ghost use Rattle.std.specs.Result.{IsErrOf};
@@ -9,21 +11,26 @@ use std::alloc::Global;
 use thiserror::Error;
 
 /// Why a load gave no bytes.
-#[derive(Clone, Copy, Debug, PartialEq, Eq, Error)]
+#[derive(Debug, Drop, Error)]
 pub enum LoadFault {
+    /// The file can't be read.
     #[error("the file can't be read")]
     Failed,
+    /// The file is longer than the limit.
     #[error("the file is longer than the limit")]
     Long,
+    /// Memory ran out.
     #[error("out of memory")]
     OutOfMemory,
 }
 
 /// Why a save was not done.
-#[derive(Clone, Copy, Debug, PartialEq, Eq, Error)]
+#[derive(Debug, Drop, Error)]
 pub enum SaveFault {
+    /// The file can't be written.
     #[error("the file can't be written")]
     Failed,
+    /// Memory ran out.
     #[error("out of memory")]
     OutOfMemory,
 }

@@ -1,3 +1,5 @@
+//! The files of the host: a trusted edge.
+
 ghost use Rattle.std.specs.Prelude.{◌≡◌, ℕ, None};
 
 use crate::files::{Files, LoadFault, SaveFault};

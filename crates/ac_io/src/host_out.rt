@@ -1,3 +1,5 @@
+//! The standard output of the host: a trusted edge.
+
 ghost use Rattle.std.specs.Prelude.{◌≡◌, ℕ, None};
 
 use crate::sink::{Sink, SinkFault};

@@ -22,6 +22,3 @@ pub use host_out::HostOut;
 pub use mem_files::MemFiles;
 pub use mem_sink::MemSink;
 pub use sink::{Sink, SinkFault};
-
-#[cfg(test)]
-mod tests;

@@ -1,3 +1,5 @@
+//! A sink in memory.
+
 ghost use Rattle.std.specs.Prelude.{◌≡◌, ℕ, ◌+◌, ◌≤◌, ◌++◌, ◌∷◌, [], take, Option, Some, IsErr, OnOk, OnErr};
 ghost use Rattle.ac_io.specs.SinkInMemory.{kept_of, next_kept, PutLeaves, SpendsSpare};
 

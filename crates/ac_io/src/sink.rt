@@ -1,3 +1,5 @@
+//! Where a report goes: what a caller may rely on of every implementation.
+
 ghost use Rattle.std.specs.Prelude.{◌≡◌, ℕ, ◌≤◌, List, Option, OnOk};
 ghost use Rattle.std.specs.Result.{IsErrOf};
 ghost use Rattle.ac_io.specs.Counts.{Rose};
@@ -6,10 +8,12 @@ ghost use Rattle.ac_io.specs.Written.{Adds, AddsPrefix};
 use thiserror::Error;
 
 /// Why a put was not done.
-#[derive(Clone, Copy, Debug, PartialEq, Eq, Error)]
+#[derive(Debug, Drop, Error)]
 pub enum SinkFault {
+    /// The bytes can't be written.
     #[error("the bytes can't be written")]
     Failed,
+    /// Memory ran out.
     #[error("out of memory")]
     OutOfMemory,
 }

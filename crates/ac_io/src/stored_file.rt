@@ -1,3 +1,5 @@
+//! One name in memory, with its contents.
+
 ghost use Rattle.std.specs.Prelude.{◌≡◌, ◌≤◌, length, IfOk, OnOk, OnErr, IsOk, Some, None};
 ghost use Rattle.std.specs.Option.{option_copied};
 ghost use Rattle.ac_io.specs.StoredFile.{has_name};

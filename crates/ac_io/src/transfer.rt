@@ -1,3 +1,5 @@
+//! Reading to the end and writing whole, over any reader and writer.
+
 ghost use Rattle.std.specs.Prelude.{◌≡◌, ◌≢◌, ◌+◌, ◌^◌, ◌<◌, ◌≤◌, ◌++◌, IfOk, IfSome, OnOk, OnErr, List, ℕ, length, take, vec_len};
 ghost use Rattle.std.specs.Result.{IsErrOf};
 ghost use Rattle.std.specs.Io.KnownBytes.{Appends, Consumes, IsAtEnd};
@@ -7,7 +9,7 @@ use std::alloc::Global;
 use std::io::{Read, Write};
 
 /// A write failed, or took nothing.
-#[derive(Debug, Drop)]
+#[derive(Drop)]
 pub struct Stopped;
 
 /// How many bytes one read asks for at most.
