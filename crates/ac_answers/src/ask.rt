@@ -1,5 +1,5 @@
 //! What a line asks for.
-use crate::{formulas, linear, programs, proof_trees};
+use crate::{differences, flow, formulas, linear, programs, proof_trees, runs};
 use serde_json::{Value, json};
 use std::alloc::{AllocError, Global};
 
@@ -34,10 +34,14 @@ fn answer_of(alloc: Global, ask: &Value) -> Answer {
         "simplify" => formulas::simplify(alloc, ask),
         "normal" => linear::normal(alloc, ask),
         "combine" => linear::combine(alloc, ask),
+        "solve" => differences::solve(alloc, ask),
         "check_proof" => proof_trees::check_proof(alloc, ask),
         "parse" => programs::parse(alloc, ask),
         "check_static" => programs::check_static(alloc, ask),
         "positions" => programs::positions(alloc, ask),
+        "run" => runs::run(alloc, ask),
+        "cuts" => flow::cuts(alloc, ask),
+        "pairs" => flow::pairs(alloc, ask),
         _ => Ok(None),
     }
 }

@@ -1,7 +1,10 @@
 //! Asks about formulas and terms.
+ghost use Rattle.std.specs.Prelude.{IfOk, IfSome, length, ◌<◌, ◌^◌};
+
 use crate::ask::{Answer, list_at, text_at};
 use crate::height::is_low;
-use ac_logic::{ArrayTerm, Change, Formula, FormulaFault, Label, Sym, Term};
+use ac_formula_reader::FormulaFault;
+use ac_logic::{ArrayTerm, Change, Formula, Label, Sym, Term};
 use ac_shared::Shared;
 use serde_json::{Value, json};
 use std::alloc::{AllocError, Global};
@@ -11,7 +14,7 @@ pub fn formula(alloc: Global, text: &str) -> Result<Option<Shared<Formula>>, All
     if !is_low(alloc, text)? {
         return Ok(None);
     }
-    match ac_logic::read_formula(alloc, text) {
+    match ac_formula_reader::read_formula(alloc, text) {
         Ok(formula) => Ok(Some(formula)),
         Err(FormulaFault::At { at: _ }) => Ok(None),
         Err(FormulaFault::OutOfMemory) => Err(AllocError),
@@ -23,7 +26,7 @@ pub fn term(alloc: Global, text: &str) -> Result<Option<Shared<Term>>, AllocErro
     if !is_low(alloc, text)? {
         return Ok(None);
     }
-    match ac_logic::read_term(alloc, text) {
+    match ac_formula_reader::read_term(alloc, text) {
         Ok(term) => Ok(Some(term)),
         Err(FormulaFault::At { at: _ }) => Ok(None),
         Err(FormulaFault::OutOfMemory) => Err(AllocError),
@@ -35,13 +38,15 @@ pub fn read_formula(alloc: Global, ask: &Value) -> Answer {
     let Some(text) = low_text(alloc, ask)? else {
         return Ok(None);
     };
-    match ac_logic::read_formula(alloc, text) {
+    match ac_formula_reader::read_formula(alloc, text) {
         Ok(formula) => Ok(Some(described(alloc, formula.get())?)),
         Err(fault) => fault_answer(alloc, fault),
     }
 }
 
-fn low_text<'a>(alloc: Global, ask: &'a Value) -> Result<Option<&'a str>, AllocError> {
+fn low_text<'a>(alloc: Global, ask: &'a Value) -> Result<Option<&'a str>, AllocError>
+    ensures { IfOk result (λ found. IfSome found (λ text. length text.now < 2 ^ 32)) }
+{
     match text_at(ask, "text") {
         Some(text) if is_low(alloc, text)? => Ok(Some(text)),
         _ => Ok(None),
@@ -59,7 +64,7 @@ fn described(alloc: Global, formula: &Formula) -> anyhow::Result<Value> {
     let depth = ac_logic::depth(formula);
     let size = ac_logic::size(formula);
     let labels = label_list(alloc, formula)?;
-    let print = ac_logic::print_formula(alloc, formula)?;
+    let print = ac_formula_printer::print_formula(alloc, formula)?;
     Ok(json!(in alloc; {"depth": depth, "labels": labels, "print": print, "size": size})?)
 }
 
@@ -82,14 +87,14 @@ pub fn read_term(alloc: Global, ask: &Value) -> Answer {
     let Some(text) = low_text(alloc, ask)? else {
         return Ok(None);
     };
-    match ac_logic::read_term(alloc, text) {
+    match ac_formula_reader::read_term(alloc, text) {
         Ok(term) => printed_term(alloc, term.get()),
         Err(fault) => fault_answer(alloc, fault),
     }
 }
 
 fn printed_term(alloc: Global, term: &Term) -> Answer {
-    let print = ac_logic::print_term(alloc, term)?;
+    let print = ac_formula_printer::print_term(alloc, term)?;
     Ok(Some(json!(in alloc; {"print": print})?))
 }
 
@@ -115,7 +120,7 @@ pub fn formula_at(
 }
 
 fn printed(alloc: Global, formula: &Formula) -> Answer {
-    let print = ac_logic::print_formula(alloc, formula)?;
+    let print = ac_formula_printer::print_formula(alloc, formula)?;
     Ok(Some(json!(in alloc; {"print": print})?))
 }
 

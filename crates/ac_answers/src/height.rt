@@ -1,4 +1,6 @@
 //! How high the tree of a formula's text may be, told before the text is read.
+ghost use Rattle.std.specs.Prelude.{IfOk, IsTrue, length, ◌<◌, ◌^◌};
+
 use std::alloc::{AllocError, Global};
 
 /// The calls go down a tree by recursion, so a text whose tree may be higher is no stated ask.
@@ -41,8 +43,18 @@ impl Part {
     }
 }
 
-/// Whether the tree that the text spells, or begins to spell, is no higher than `HIGHEST`.
-pub fn is_low(alloc: Global, text: &str) -> Result<bool, AllocError> {
+/// Whether the text's places are told in 32 bits, and the tree that it spells, or begins to spell, is no higher than
+/// `HIGHEST`.
+pub fn is_low(alloc: Global, text: &str) -> Result<bool, AllocError>
+    ensures { IfOk result (λ low. IsTrue low → length text.now < 2 ^ 32) }
+{
+    if u32::try_from(text.len()).is_err() {
+        return Ok(false);
+    }
+    is_tree_low(alloc, text)
+}
+
+fn is_tree_low(alloc: Global, text: &str) -> Result<bool, AllocError> {
     let mut outer = Vec::new(alloc);
     let mut part = Part::new();
     let mut before = b' ';

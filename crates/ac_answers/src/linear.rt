@@ -26,7 +26,7 @@ fn answered(alloc: Global, form: Option<Linear>) -> Answer {
 fn described(alloc: Global, form: &Linear) -> anyhow::Result<Value> {
     let mut parts = Vec::new(alloc);
     for part in form.parts.as_slice().iter() {
-        let unit = ac_logic::print_term(alloc, part.unit.get())?;
+        let unit = ac_formula_printer::print_term(alloc, part.unit.get())?;
         let factor = whole(alloc, part.factor)?;
         parts.push(json!(in alloc; [factor, unit])?)?;
     }
@@ -35,11 +35,20 @@ fn described(alloc: Global, form: &Linear) -> anyhow::Result<Value> {
 }
 
 /// A number, as a text of its decimals beyond 64 bits.
-fn whole(alloc: Global, number: i128) -> anyhow::Result<Value> {
+pub fn whole(alloc: Global, number: i128) -> anyhow::Result<Value> {
     match i64::try_from(number) {
         Ok(small) => Ok(Value::from(small)),
         Err(_) => Ok(Value::String(format!(in alloc; "{number}")?)),
     }
+}
+
+/// The same of each number.
+pub fn wholes(alloc: Global, numbers: &[i128]) -> anyhow::Result<Vec<Value>> {
+    let mut list = Vec::new(alloc);
+    for number in numbers.iter() {
+        list.push(whole(alloc, *number)?)?;
+    }
+    Ok(list)
 }
 
 /// The normal form of a term.

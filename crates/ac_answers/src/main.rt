@@ -4,17 +4,14 @@
 #![tactic(auto)]
 
 mod ask;
-#[cfg(test)]
-mod bad_formulas;
-#[cfg(test)]
-mod formula_texts;
+mod differences;
+mod flow;
 mod formulas;
 mod height;
 mod linear;
-#[cfg(test)]
-mod program_texts;
 mod programs;
 mod proof_trees;
+mod runs;
 mod spans;
 
 use std::io;

@@ -1,8 +1,11 @@
 //! Asks about programs.
+ghost use Rattle.std.specs.Prelude.{◌<◌, IfOk, IfSome};
+ghost use Rattle.ac_tree.specs.Numbering.{program_nodes};
+
 use crate::ask::{Answer, text_at};
 use crate::spans::spans_of;
 use ac_parse::ParseFault;
-use ac_tree::{LimitKind, Position, Program, Span};
+use ac_tree::{Position, Program, Span};
 use serde_json::{Value, json};
 use std::alloc::{AllocError, Global};
 
@@ -20,7 +23,7 @@ pub fn parse(alloc: Global, ask: &Value) -> Answer {
             Ok(Some(json!(in alloc; {"unexpected": [start, end]})?))
         }
         Err(ParseFault::Limit { which, value }) => {
-            let word = limit_word(which);
+            let word = which.word();
             Ok(Some(json!(in alloc; {"limit": [word, value]})?))
         }
         Err(ParseFault::OutOfMemory) => Err(anyhow::Error::from(AllocError)),
@@ -41,30 +44,11 @@ fn span_pair(alloc: Global, span: Span) -> Result<Value, AllocError> {
     json!(in alloc; [start, end])
 }
 
-/// The word that a report has for a limit.
-fn limit_word(kind: LimitKind) -> &'static str {
-    match kind {
-        LimitKind::ProgramBytes => "program",
-        LimitKind::PolicyBytes => "policy",
-        LimitKind::CertificateBytes => "certificate",
-        LimitKind::Literal => "literal",
-        LimitKind::NameLength => "name",
-        LimitKind::Nesting => "nesting",
-        LimitKind::Operators => "operators",
-        LimitKind::Nodes => "nodes",
-        LimitKind::Patterns => "patterns",
-        LimitKind::Conditions => "conditions",
-        LimitKind::Size => "size",
-        LimitKind::Total => "total",
-        LimitKind::Depth => "depth",
-        LimitKind::Instances => "instances",
-        LimitKind::Coefficient => "coefficient",
-        LimitKind::Make => "make",
-    }
-}
-
 /// The program that a text is; none where it is none.
-fn program(alloc: Global, ask: &Value) -> Result<Option<Program>, AllocError> {
+#[tactic(auto, using(crate::proofs::Counted::few_nodes))]
+fn program(alloc: Global, ask: &Value) -> Result<Option<Program>, AllocError>
+    ensures { IfOk result (λ found. IfSome found (λ p. program_nodes p < 4294967296)) }
+{
     let Some(text) = text_at(ask, "text") else {
         return Ok(None);
     };
