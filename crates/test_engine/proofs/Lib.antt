@@ -1,0 +1,2 @@
+-- Lemmas on what is parsed.
+pub mod Counted
