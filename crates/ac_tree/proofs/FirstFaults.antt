@@ -1,6 +1,6 @@
 -- The first fault of each production, as code finds it: of a part, or else of the next.
-use Rattle.std.proofs.Common.{◌≡◌, ℕ, ◌+◌, ◌<◌, length, get_or, drop, List, [], ◌∷◌, ◌++◌, ◌||◌, Bool, true, false, if◌then◌else◌, bytes_eq, Option, Some, None, refl, ap, sym, ◌∙◌, rules, arith}
-use Rattle.std.proofs.lemmas.List.{drop_more}
+use Rattle.std.proofs.Common.{◌≡◌, ℕ, ◌+◌, ◌<◌, length, get_or, take, drop, List, [], ◌∷◌, ◌++◌, ◌||◌, Bool, true, false, if◌then◌else◌, bytes_eq, Option, Some, None, refl, ap, sym, ◌∙◌, rules, arith}
+use Rattle.std.proofs.lemmas.List.{drop_more, take_more}
 use mathlib.Core.Former.{Count}
 use Rattle.ac_tree.specs.declared.node.NodeId.{NodeId}
 use Rattle.ac_tree.specs.declared.program.Cond.{Cond}
@@ -17,7 +17,7 @@ use Rattle.ac_tree.specs.declared.program.StmtKind.{the_lemmas as stmt_lemmas, R
 use Rattle.ac_tree.specs.declared.program.StmtKind.TheVariants as stmt
 use Rattle.ac_tree.specs.declared.static_rules.StaticFault.{StaticFault}
 use Rattle.ac_tree.specs.Opened.{hidden, expr_shape, expr_child, cond_shape, cond_child}
-use Rattle.ac_tree.specs.StaticRules.{NameBytes, Loop, broken, kind_in, set_tests, for_tests, use_tests, index_count, expr_faults, index_faults, cond_faults, reads, reads_index, stmt_faults, block_faults, list_faults, first_fault}
+use Rattle.ac_tree.specs.StaticRules.{NameBytes, Loop, broken, kind_in, set_tests, for_tests, use_tests, index_count, expr_faults, index_faults, cond_faults, reads, reads_index, item_faults, items_faults, stmt_faults, block_faults, list_faults, first_fault}
 
 -- the first of two
 abbrev pub or_else : {A : Type 0} → Option A → Option A → Option A
@@ -226,3 +226,13 @@ list_faults-drop ds loops block i s h e =
     ap (λ xs. first_fault (list_faults ds loops xs)) (drop_more block i s h)
     ∙ (first-append (stmt_faults ds loops (get_or block i s).node.id (get_or block i s).kind) rest
     ∙ ap (λ (x : Stmt). or_else (first_fault (stmt_faults ds loops x.node.id x.kind)) (first_fault rest)) (sym e))
+
+-- the declarations from a place on: the one there, or else those behind it
+pub items_faults-drop : (items : List Item) (i : ℕ) (d : Item) → i < length items → d ≡ get_or items i d →
+    first_fault (items_faults (take i items) (drop i items)) ≡ or_else (first_fault (item_faults (take i items) d)) (first_fault (items_faults (take (i + 1) items) (drop (i + 1) items)))
+items_faults-drop items i d h e =
+    let head : drop i items ≡ d ∷ drop (i + 1) items = drop_more items i d h ∙ ap (λ (x : Item). x ∷ drop (i + 1) items) (sym e) in
+    let before : take (i + 1) items ≡ take i items ++ d ∷ [] = take_more items i d h ∙ ap (λ (x : Item). take i items ++ x ∷ []) (sym e) in
+    ap (λ xs. first_fault (items_faults (take i items) xs)) head
+    ∙ (first-append (item_faults (take i items) d) (items_faults (take i items ++ d ∷ []) (drop (i + 1) items))
+    ∙ ap (λ xs. or_else (first_fault (item_faults (take i items) d)) (first_fault (items_faults xs (drop (i + 1) items)))) (sym before))
