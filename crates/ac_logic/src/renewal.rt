@@ -32,6 +32,23 @@ pub fn renew_one<C: Drop, N: Drop, F: FnOnce(Shared<C>) -> N>(
     }
 }
 
+/// Both children where one of them is new.
+pub fn renew_pair<C: Drop>(
+    first: &Shared<C>,
+    new_first: Option<Shared<C>>,
+    second: &Shared<C>,
+    new_second: Option<Shared<C>>,
+) -> Result<Option<(Shared<C>, Shared<C>)>, AllocError>
+    ensures { IfOk result (λ pair. MatchOption pair ((new_first ≡ None) × (new_second ≡ None)) (λ p. (p.0 ≡ renewed first.now new_first) × (p.1 ≡ renewed second.now new_second))) }
+{
+    if new_first.is_none() && new_second.is_none() {
+        return Ok(None);
+    }
+    let first = renew(first, new_first)?;
+    let second = renew(second, new_second)?;
+    Ok(Some((first, second)))
+}
+
 /// The node of two children, made again where one of them is new.
 pub fn renew_two<C: Drop, N: Drop, F: FnOnce(Shared<C>, Shared<C>) -> N>(
     alloc: Global,
@@ -44,12 +61,10 @@ pub fn renew_two<C: Drop, N: Drop, F: FnOnce(Shared<C>, Shared<C>) -> N>(
     requires { F.IsAlwaysCallable make }
     ensures { IfOk result (λ node. MatchOption node ((new_first ≡ None) × (new_second ≡ None)) (λ n. F.post make (renewed first.now new_first) (renewed second.now new_second) n)) }
 {
-    if new_first.is_none() && new_second.is_none() {
-        return Ok(None);
+    match renew_pair(first, new_first, second, new_second)? {
+        None => Ok(None),
+        Some((first, second)) => Ok(Some(Shared::new(alloc, make(first, second))?)),
     }
-    let first = renew(first, new_first)?;
-    let second = renew(second, new_second)?;
-    Ok(Some(Shared::new(alloc, make(first, second))?))
 }
 
 /// What takes the place of the children of a `Read`; None: the child stays.

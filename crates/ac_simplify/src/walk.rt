@@ -2,7 +2,6 @@
 ghost use Rattle.std.specs.Prelude.{◌≡◌, ℕ, List, ◌++◌, ◌∷◌, [], map, IfOk, MatchOption, OnOk, None};
 ghost use Rattle.std.specs.Prelude.{ℤ, ◌↔◌, ◌⊎◌};
 ghost use Rattle.std.specs.List.{Contains};
-ghost use Rattle.std.specs.Option.{unwrap_or};
 ghost use Rattle.ac_logic.specs.declared.label.Label.{Label};
 ghost use Rattle.ac_logic.specs.Labels.{labels_of};
 ghost use Rattle.ac_logic.specs.Aim.{AimsAt};
@@ -14,7 +13,7 @@ ghost use Rattle.ac_simplify.specs.Order.{below, simplified, rewrites_of, settle
 use crate::first_rule::first_rule;
 use crate::rewrite::{Rewrite, Simplified};
 use crate::rule::RewriteRule;
-use ac_logic::Formula;
+use ac_logic::{Formula, renew_pair};
 use ac_shared::Shared;
 use sqlite_items::Items;
 use std::alloc::{AllocError, Global};
@@ -150,7 +149,7 @@ fn simplify_inside(
         Formula::And(f, g) => {
             let left = simplify_child(alloc, f, 0, walk)?;
             let right = simplify_child(alloc, g, 1, walk)?;
-            Ok(match changed_pair(f, g, left, right)? {
+            Ok(match renew_pair(f, left, g, right)? {
                 Some((f, g)) => Some(Formula::And(f, g)),
                 None => None,
             })
@@ -158,7 +157,7 @@ fn simplify_inside(
         Formula::Or(f, g) => {
             let left = simplify_child(alloc, f, 0, walk)?;
             let right = simplify_child(alloc, g, 1, walk)?;
-            Ok(match changed_pair(f, g, left, right)? {
+            Ok(match renew_pair(f, left, g, right)? {
                 Some((f, g)) => Some(Formula::Or(f, g)),
                 None => None,
             })
@@ -166,7 +165,7 @@ fn simplify_inside(
         Formula::Implies(f, g) => {
             let left = simplify_child(alloc, f, 0, walk)?;
             let right = simplify_child(alloc, g, 1, walk)?;
-            Ok(match changed_pair(f, g, left, right)? {
+            Ok(match renew_pair(f, left, g, right)? {
                 Some((f, g)) => Some(Formula::Implies(f, g)),
                 None => None,
             })
@@ -201,27 +200,4 @@ fn simplify_child(
     let simple = simplify_at(alloc, formula, walk)?;
     walk.leave();
     Ok(simple)
-}
-
-/// Both parts where at least one of them changed.
-fn changed_pair(
-    f: &Shared<Formula>,
-    g: &Shared<Formula>,
-    left: Option<Shared<Formula>>,
-    right: Option<Shared<Formula>>,
-) -> Result<Option<(Shared<Formula>, Shared<Formula>)>, AllocError>
-    ensures { IfOk result (λ r. MatchOption r ((left ≡ None) × (right ≡ None)) (λ p. (p.0 ≡ unwrap_or left f.now) × (p.1 ≡ unwrap_or right g.now))) }
-{
-    match (left, right) {
-        (None, None) => Ok(None),
-        (Some(f), Some(g)) => Ok(Some((f, g))),
-        (Some(f), None) => {
-            let g = g.share()?;
-            Ok(Some((f, g)))
-        }
-        (None, Some(g)) => {
-            let f = f.share()?;
-            Ok(Some((f, g)))
-        }
-    }
 }
