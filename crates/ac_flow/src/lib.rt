@@ -1,4 +1,4 @@
-//! The control flow of a program: its cuts, its pairs of a cut and a target, and what a path between them visits.
+//! The control flow of a program: its cuts, and its pairs of a cut and a target.
 //!
 //! Control goes from point to point of a program, whatever its tests give. Some points are cuts, at which the path of a
 //! verification condition begins, and some are targets, at which it ends. `specs/` says, in this order, which points there
@@ -9,7 +9,7 @@
 mod cut_list;
 pub mod examples;
 pub mod laws;
-mod marks;
+pub mod marks;
 mod pair_list;
 mod through;
 
