@@ -1,5 +1,5 @@
 //! What a line asks for.
-use crate::{differences, flow, formulas, linear, programs, proof_trees, runs};
+use crate::{differences, flow, formulas, linear, policies, programs, proof_trees, runs};
 use serde_json::{Value, json};
 use std::alloc::{AllocError, Global};
 
@@ -42,6 +42,10 @@ fn answer_of(alloc: Global, ask: &Value) -> Answer {
         "run" => runs::run(alloc, ask),
         "cuts" => flow::cuts(alloc, ask),
         "pairs" => flow::pairs(alloc, ask),
+        "sites" => policies::sites(alloc, ask),
+        "need" => policies::need(alloc, ask),
+        "effect" => policies::effect(alloc, ask),
+        "known" => policies::known(alloc, ask),
         _ => Ok(None),
     }
 }

@@ -176,7 +176,8 @@ fn change(alloc: Global, asked: &Value) -> anyhow::Result<Option<Change>> {
     }
 }
 
-fn copied_symbol(symbol: &Sym) -> Result<Sym, AllocError> {
+/// The same symbol once more.
+pub fn copied_symbol(symbol: &Sym) -> Result<Sym, AllocError> {
     Ok(match symbol {
         Sym::Value(name) => Sym::Value(name.clone()?),
         Sym::Init(name) => Sym::Init(name.clone()?),

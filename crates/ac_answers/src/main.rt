@@ -9,6 +9,7 @@ mod flow;
 mod formulas;
 mod height;
 mod linear;
+mod policies;
 mod programs;
 mod proof_trees;
 mod runs;

@@ -14,7 +14,7 @@ use Rattle.ac_tree.specs.declared.program.Extents.{Extents}
 use Rattle.ac_tree.specs.declared.program.Extents.TheVariants.{One, Two}
 use Rattle.ac_tree.specs.declared.program.Extent.{Extent}
 use Rattle.ac_tree.specs.declared.program.Extent.TheVariants.{Lit, Named}
-use Rattle.ac_tree.specs.StaticRules.{KeepsStaticRules, redeclared_name, undeclared_name, empty_range, bad_extent, is_declared, broken, items_faults, item_faults, extents_of, is_empty_range, is_bad_size, is_bad_extent, is_undeclared_extent}
+use Rattle.ac_tree.specs.StaticRules.{KeepsStaticRules, is_declared, broken, items_faults, item_faults, extents_of, is_empty_range, is_bad_size, is_bad_extent, is_undeclared_extent}
 use Rattle.ac_run.specs.declared.start.Start.{Start}
 use Rattle.ac_run.specs.declared.start.StartCell.{StartCell}
 use Rattle.ac_run.specs.Declarations.{NameBytes, Shape, Scalar, Vector, Matrix, kind_in, kind_of, constant_in, numbers_in, named_extent, extent, shape, shape_in}
@@ -22,11 +22,11 @@ use Rattle.ac_run.specs.Start.{count, InRange, is_held, FitsItem, Fits}
 use Rattle.ac_policy.specs.State.{IsArray}
 use Rattle.ac_policy.specs.GoodExtents.{IsGoodSize, IsGoodExtent, AreGoodExtents, HasGoodKind, HasGoodExtents, HasAllCells, HasSizes}
 
-front-nil : (xs ys : List StaticFault) → xs ++ ys ≡ [] → xs ≡ []
+pub front-nil : (xs ys : List StaticFault) → xs ++ ys ≡ [] → xs ≡ []
 front-nil [] ys h = refl
 front-nil (x ∷ xs) ys h = cc
 
-back-nil : (xs ys : List StaticFault) → xs ++ ys ≡ [] → ys ≡ []
+pub back-nil : (xs ys : List StaticFault) → xs ++ ys ≡ [] → ys ≡ []
 back-nil [] ys h = h
 back-nil (x ∷ xs) ys h = cc
 
@@ -75,19 +75,19 @@ good-extents before more [] h k = tt
 good-extents before more (Lit n ∷ es) h k = (tt, good-extents before more es h.1 k.1)
 good-extents before more (Named x ∷ es) h k = (good-size before more x (kind_in before x) refl h.0 k.0, good-extents before more es h.1 k.1)
 
-two-unbroken : (at : NodeId) (a b c d : Bool) → broken at ((redeclared_name, a) ∷ (undeclared_name, b) ∷ (empty_range, c) ∷ (bad_extent, d) ∷ []) ≡ [] → (b ≡ false) × (d ≡ false)
-two-unbroken at a b c d h =
-    let rest = (unbroken at redeclared_name a ((undeclared_name, b) ∷ (empty_range, c) ∷ (bad_extent, d) ∷ []) h).1 in
-    let declared = unbroken at undeclared_name b ((empty_range, c) ∷ (bad_extent, d) ∷ []) rest in
-    let range = unbroken at empty_range c ((bad_extent, d) ∷ []) declared.1 in
-    (declared.0, (unbroken at bad_extent d [] range.1).0)
+two-unbroken : (at : NodeId) (q r t u : ℕ) (a b c d : Bool) → broken at ((q, a) ∷ (r, b) ∷ (t, c) ∷ (u, d) ∷ []) ≡ [] → (b ≡ false) × (d ≡ false)
+two-unbroken at q r t u a b c d h =
+    let rest = (unbroken at q a ((r, b) ∷ (t, c) ∷ (u, d) ∷ []) h).1 in
+    let declared = unbroken at r b ((t, c) ∷ (u, d) ∷ []) rest in
+    let range = unbroken at t c ((u, d) ∷ []) declared.1 in
+    (declared.0, (unbroken at u d [] range.1).0)
 
 abbrev IsGood : List Item → Item → Type 0
 IsGood items d = AllByRecursion (IsSizeExtent items) (extents_of d.kind)
 
 good-item : (before more : List Item) (d : Item) → item_faults before d ≡ [] → IsGood (before ++ more) d
 good-item before more d h =
-    let tests = two-unbroken d.node.id (is_declared before d.name) (list_any (is_undeclared_extent before) (extents_of d.kind)) (is_empty_range d.kind) (list_any (is_bad_extent before) (extents_of d.kind)) h in
+    let tests = two-unbroken d.node.id _ _ _ _ (is_declared before d.name) (list_any (is_undeclared_extent before) (extents_of d.kind)) (is_empty_range d.kind) (list_any (is_bad_extent before) (extents_of d.kind)) h in
     good-extents before more (extents_of d.kind) (none-of (is_undeclared_extent before) (extents_of d.kind) tests.0) (none-of (is_bad_extent before) (extents_of d.kind) tests.1)
 
 good-items : (before ds : List Item) → items_faults before ds ≡ [] → AllByRecursion (IsGood (before ++ ds)) ds

@@ -64,7 +64,7 @@ form p = record {
 
     different_of : (s : Site) (k : SiteKind) → AreDifferent (init_effect_of k p s)
     different_of s kind.Read = tt
-    different_of s kind.Write = (All-nil, tt)
+    different_of s kind.Write = (All-nil _, tt)
     different_of s (kind.Hand role) = tt
 
     need_plain : (s : Site) → IsPlainSite s → (input : Bool) (k : SiteKind) → IsPlainIf (init_need_of input k p s)

@@ -25,7 +25,7 @@ use Rattle.ac_policy.specs.Opened.{hidden, formula_shape, formula_child, term_sh
 abbrev pub IsGroundTerm : Term → Type 0
 IsGroundTerm t = ((d : ℕ) → IsTermClosedIn d t) × HasNoFreshInTerm t
 
-literal_ground : (n : ℕ) → IsGroundTerm (literal_term n)
+pub literal_ground : (n : ℕ) → IsGroundTerm (literal_term n)
 unfolding hidden term_shape term_child
 literal_ground n = by (nat_lt n (2 ^ 63))
   where
@@ -33,7 +33,8 @@ literal_ground n = by (nat_lt n (2 ^ 63))
     by true = ((λ d. tt), tt)
     by false = ((λ d. ((tt, tt), tt)), ((tt, tt), tt))
 
-scalar_ground : (p : Program) (x : NameBytes) → IsGroundTerm (scalar_term p x)
+pub scalar_ground : (p : Program) (x : NameBytes) → IsGroundTerm (scalar_term p x)
+unfolding hidden term_shape term_child
 scalar_ground p x = by (constant_of p x)
   where
     by : (o : Option ℤ) → IsGroundTerm (constant_or o (Scalar (Value x)))

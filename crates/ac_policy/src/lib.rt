@@ -11,6 +11,7 @@ mod any_policy;
 mod bounds;
 mod extents;
 mod init;
+mod laws;
 mod policy;
 mod site;
 mod site_list;
@@ -19,7 +20,8 @@ mod terms;
 
 pub use any_policy::AnyPolicy;
 pub use extents::{ExtentTerms, extent_terms, for_all_cells, indexes_within};
+pub use laws::sites_meet_the_laws;
 pub use policy::Policy;
 pub use site::{Site, SiteKind};
-pub use site_list::sites;
+pub use site_list::{scalar_write, sites};
 pub use terms::{first_index, literal_term, scalar_term, second_index, term_of};

@@ -1,7 +1,7 @@
 //! The sites of a program, in the order of nodes.
 ghost use Rattle.std.specs.Prelude.{◌≡◌, ◌++◌, ◌∷◌, [], IfOk, OnOk};
 ghost use Rattle.ac_policy.specs.Terms.{first_index as first, second_index as second, zero_term};
-ghost use Rattle.ac_policy.specs.Sites.{site_at, read_sites, expr_sites, index_sites, cond_sites, stmt_sites, list_sites, sites_of};
+ghost use Rattle.ac_policy.specs.Sites.{site_at, scalar_write as written_scalar, read_sites, expr_sites, index_sites, cond_sites, stmt_sites, list_sites, sites_of};
 
 use crate::site::{Site, SiteKind};
 use crate::terms::{constant, first_index, second_index, zero};
@@ -15,6 +15,23 @@ pub fn sites(alloc: Global, program: &Program) -> Result<Vec<Site>, AllocError>
     let mut found = Vec::new(alloc);
     add_block(alloc, program.body.as_slice(), program, &mut found)?;
     Ok(found)
+}
+
+/// The site of a write to a scalar. The variable of a `for` has none among the sites; its writes are judged by this one, with
+/// the node of the `for`.
+pub fn scalar_write(alloc: Global, node: NodeId, name: &Name) -> Result<Site, AllocError>
+    ensures { IfOk result (λ s. s ≡ written_scalar node name.now) }
+{
+    let name = name.clone()?;
+    let i = zero(alloc)?;
+    let j = zero(alloc)?;
+    Ok(Site {
+        node,
+        name,
+        kind: SiteKind::Write,
+        i,
+        j,
+    })
 }
 
 /// Adds a site that has no indexes.
