@@ -46,6 +46,7 @@ all_read P None s h = (h, tt)
 -- Plain terms.
 
 zero_plain : IsPlainTerm zero_term
+unfolding hidden term_shape term_child
 zero_plain = record { closed = tt; no_fresh = tt }
 
 module _ (p : Program) where
@@ -139,7 +140,7 @@ front-broken n ((rule, false) ∷ xs) ys h = front-broken n xs ys h
 
 module _ (p : Program) (start : Start) where
   indexed_as : (n : NodeId) (k : Option ItemKind) (at : Index) → broken n (use_tests k (index_count at)) ≡ [] → HasIndexesOf (shape_in p start k) (first_index p at) (second_index p at)
-  unfolding hidden expr_shape expr_child
+  unfolding hidden expr_shape expr_child term_shape term_child array_shape array_child
   indexed_as n None at h = cc
   indexed_as n (Some (Const v)) (OneIndex m a) h = cc
   indexed_as n (Some (Const v)) (TwoIndexes m a l b) h = cc

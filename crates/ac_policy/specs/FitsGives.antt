@@ -174,5 +174,5 @@ module _ (p : Program) (start : Start) where
     all-cells x (Some (InputArray es lo hi)) e h = (numbers-fit x (InputArray es lo hi) e refl).0
     all-cells x (Some (VarArray es)) e h = (numbers-fit x (VarArray es) e refl).0
 
-    pub has-extent_terms : HasSizes p start
-    has-extent_terms = record { extents = extents-good; all_cells = λ x h. all-cells x (kind_of p x) refl h }
+    pub has-sizes : HasSizes p start
+    has-sizes = record { extents = extents-good; all_cells = λ x h. all-cells x (kind_of p x) refl h }
