@@ -1,5 +1,5 @@
 -- The laws of the three policies, each by its cases.
-use Rattle.std.specs.Prelude.{List, []}
+use Rattle.std.specs.Prelude.{[]}
 use Rattle.ac_tree.specs.declared.program.Program.{Program}
 use Rattle.ac_tree.specs.StaticRules.{KeepsStaticRules}
 use Rattle.ac_run.specs.declared.start.Start.{Start}

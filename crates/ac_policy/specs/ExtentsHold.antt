@@ -1,23 +1,22 @@
 -- The term of an extent has the number of the extent, in every state of a run.
-use Rattle.std.proofs.Common.{◌≡◌, ℕ, ◌+◌, ◌^◌, ◌/◌, ◌%◌, nat_lt, if◌then◌else◌, ◌<◌, ℤ, pos, negsuc, nat_abs, ◌+ℤ◌, ◌≤ℤ◌, int_le, int_lt, List, [], Bool, true, false, ◌&&◌, Option, Some, None, refl, sym, ◌∙◌, ap, subst, rules, arith, get_or}
+use Rattle.std.proofs.Common.{◌≡◌, ℕ, ◌+◌, ◌^◌, ◌/◌, ◌%◌, nat_lt, if◌then◌else◌, ℤ, pos, negsuc, nat_abs, ◌≤ℤ◌, List, Bool, true, false, Option, Some, None, refl, ◌∙◌, ap, arith, get_or}
 use Rattle.std.proofs.lemmas.Int.{ints}
 use Rattle.std.proofs.Math.Nat.{div-add-mod}
 use Rattle.ac_tree.specs.declared.program.Program.{Program}
 use Rattle.ac_tree.specs.declared.program.ItemKind.{ItemKind}
 use Rattle.ac_tree.specs.declared.program.ItemKind.TheVariants.{Const, InputScalar, InputArray, VarScalar, VarArray}
-use Rattle.ac_tree.specs.declared.program.Extents.{Extents}
 use Rattle.ac_tree.specs.declared.program.Extents.TheVariants.{One, Two}
 use Rattle.ac_tree.specs.declared.program.Extent.{Extent}
 use Rattle.ac_tree.specs.declared.program.Extent.TheVariants.{Lit, Named}
 use Rattle.ac_run.specs.declared.start.Start.{Start}
-use Rattle.ac_run.specs.Declarations.{NameBytes, Shape, Scalar, Vector, Matrix, is_input, is_input_kind, kind_of, constant_in, constant_of, shape, shape_in, extent, named_extent, numbers_in}
-use Rattle.ac_run.specs.Memory.{Memory, number_at, place_in}
+use Rattle.ac_run.specs.Declarations.{NameBytes, Shape, Scalar, Vector, Matrix, is_input_kind, kind_of, constant_in, shape, shape_in, extent, named_extent, numbers_in}
+use Rattle.ac_run.specs.Memory.{Memory, place_in}
 use Rattle.ac_logic.specs.declared.formula.Sym.TheVariants.{Value}
 use Rattle.ac_logic.specs.declared.formula.Term.{Num}
 use Rattle.ac_logic.specs.Patterns.{Sum}
 use Rattle.ac_logic.specs.Patterns.{Scalar as ScalarOf}
 use Rattle.ac_logic.specs.Meaning.{Valuation, value}
-use Rattle.ac_policy.specs.State.{Shadow, Kept, cell, state, scalar_or}
+use Rattle.ac_policy.specs.State.{Shadow, Kept, state, scalar_or}
 use Rattle.ac_policy.specs.declared.extents.ExtentTerms.{ExtentTerms}
 use Rattle.ac_policy.specs.declared.extents.ExtentTerms.TheVariants.{NoExtent, OneExtent, TwoExtents}
 use Rattle.ac_policy.specs.Terms.{constant_or, literal_term}

@@ -1,7 +1,7 @@
 -- What a start that fits an accepted program gives: extents that are not below 0, a number for each cell, inputs in range.
-use Rattle.std.proofs.Common.{◌≡◌, ℕ, ◌*◌, ◌<◌, ℤ, pos, nat_abs, List, [], ◌∷◌, ◌++◌, filter, Bool, true, false, not, ◌||◌, cond, Option, Some, None, is_some, refl, sym, ◌∙◌, ap, subst, if◌then◌else◌, ◌≤ℤ◌, int_lt, bytes_eq, rules, arith, append_assoc, length, All, slice_index_or, get_or}
+use Rattle.std.proofs.Common.{◌≡◌, ℕ, ◌<◌, ℤ, pos, List, [], ◌∷◌, ◌++◌, filter, Bool, true, false, not, ◌||◌, cond, Option, Some, None, is_some, refl, sym, ◌∙◌, ap, subst, if◌then◌else◌, ◌≤ℤ◌, int_lt, bytes_eq, rules, arith, append_assoc, length, All}
 use Rattle.std.specs.List.{AllByRecursion, AllZip, list_any}
-use Rattle.std.proofs.lemmas.Bool.{false≢true, true≢false}
+use Rattle.std.proofs.lemmas.Bool.{false≢true}
 use Rattle.std.proofs.lemmas.Int.{ints}
 use Rattle.std.proofs.lemmas.List.Elements.{All-get_or}
 use Rattle.ac_tree.specs.declared.node.NodeId.{NodeId}
@@ -10,17 +10,16 @@ use Rattle.ac_tree.specs.declared.program.Program.{Program}
 use Rattle.ac_tree.specs.declared.program.Item.{Item}
 use Rattle.ac_tree.specs.declared.program.ItemKind.{ItemKind}
 use Rattle.ac_tree.specs.declared.program.ItemKind.TheVariants.{Const, InputScalar, InputArray, VarScalar, VarArray}
-use Rattle.ac_tree.specs.declared.program.Extents.{Extents}
 use Rattle.ac_tree.specs.declared.program.Extents.TheVariants.{One, Two}
 use Rattle.ac_tree.specs.declared.program.Extent.{Extent}
 use Rattle.ac_tree.specs.declared.program.Extent.TheVariants.{Lit, Named}
 use Rattle.ac_tree.specs.StaticRules.{KeepsStaticRules, is_declared, broken, items_faults, item_faults, extents_of, is_empty_range, is_bad_size, is_bad_extent, is_undeclared_extent}
 use Rattle.ac_run.specs.declared.start.Start.{Start}
 use Rattle.ac_run.specs.declared.start.StartCell.{StartCell}
-use Rattle.ac_run.specs.Declarations.{NameBytes, Shape, Scalar, Vector, Matrix, kind_in, kind_of, constant_in, numbers_in, named_extent, extent, shape, shape_in}
+use Rattle.ac_run.specs.Declarations.{NameBytes, kind_in, kind_of, numbers_in, shape_in}
 use Rattle.ac_run.specs.Start.{count, InRange, is_held, FitsItem, Fits}
 use Rattle.ac_policy.specs.State.{IsArray}
-use Rattle.ac_policy.specs.GoodExtents.{IsGoodSize, IsGoodExtent, AreGoodExtents, HasGoodKind, HasGoodExtents, HasAllCells, HasSizes}
+use Rattle.ac_policy.specs.GoodExtents.{IsGoodSize, IsGoodExtent, HasGoodKind, HasGoodExtents, HasSizes}
 
 pub front-nil : (xs ys : List StaticFault) → xs ++ ys ≡ [] → xs ≡ []
 front-nil [] ys h = refl

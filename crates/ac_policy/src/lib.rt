@@ -19,7 +19,9 @@ mod symm;
 mod terms;
 
 pub use any_policy::AnyPolicy;
-pub use extents::{ExtentTerms, extent_terms, for_all_cells, indexes_within};
+pub use extents::{
+    ExtentTerms, cell_term, column_index, extent_terms, for_all_cells, indexes_within, row_index,
+};
 pub use laws::sites_meet_the_laws;
 pub use policy::Policy;
 pub use site::{Site, SiteKind};
