@@ -22,7 +22,7 @@ pub use any_policy::AnyPolicy;
 pub use extents::{
     ExtentTerms, cell_term, column_index, extent_terms, for_all_cells, indexes_within, row_index,
 };
-pub use laws::sites_meet_the_laws;
+pub use laws::{shadow_changes_leave_values, sites_meet_the_laws, sites_stand_in_order};
 pub use policy::Policy;
 pub use site::{Site, SiteKind};
 pub use site_list::{scalar_write, sites};
