@@ -20,7 +20,7 @@ use Rattle.ac_run.specs.Declarations.{NameBytes, Shape, Scalar, Vector, Matrix, 
 use Rattle.ac_policy.specs.declared.site.Site.{Site}
 use Rattle.ac_policy.specs.declared.site.SiteKind.{SiteKind}
 use Rattle.ac_policy.specs.declared.site.SiteKind.TheVariants as kind
-use Rattle.ac_policy.specs.FitsGives.{front-nil, back-nil}
+use Rattle.ac_policy.specs.FittingStart.{front-nil, back-nil}
 use Rattle.ac_policy.specs.Laws.{IsPlainSite, IsIndexed, HasIndexesOf}
 use Rattle.ac_policy.specs.Plain.{IsPlainTerm}
 use Rattle.ac_policy.specs.PlainLaws.{literal_ground, scalar_ground}

@@ -20,7 +20,7 @@ use Rattle.ac_policy.specs.declared.extents.ExtentTerms.{ExtentTerms}
 use Rattle.ac_policy.specs.declared.extents.ExtentTerms.TheVariants.{NoExtent, OneExtent, TwoExtents}
 use Rattle.ac_policy.specs.Extents.{index_within, indexes_within, extent_terms}
 use Rattle.ac_policy.specs.GoodExtents.{HasGoodExtents}
-use Rattle.ac_policy.specs.ExtentsHold.{ExtentsAre, extents_are}
+use Rattle.ac_policy.specs.ExtentValues.{ExtentsAre, extents_are}
 use Rattle.ac_policy.specs.Bounds.{bounds_need, bounds_need_of, no_shadow, no_effect, nothing_known}
 use Rattle.ac_policy.specs.PlainLaws.{extents_ground, within_plain}
 use Rattle.ac_policy.specs.Opened.{hidden, term_shape, term_child, array_shape, array_child, formula_shape, formula_child}

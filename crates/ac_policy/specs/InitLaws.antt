@@ -33,7 +33,7 @@ use Rattle.ac_policy.specs.declared.extents.ExtentTerms.{ExtentTerms}
 use Rattle.ac_policy.specs.declared.extents.ExtentTerms.TheVariants.{NoExtent, OneExtent, TwoExtents}
 use Rattle.ac_policy.specs.Extents.{extent_terms, extent_terms_in}
 use Rattle.ac_policy.specs.GoodExtents.{HasGoodExtents}
-use Rattle.ac_policy.specs.ExtentsHold.{ExtentsAre, extents_are}
+use Rattle.ac_policy.specs.ExtentValues.{ExtentsAre, extents_are}
 use Rattle.ac_policy.specs.Init.{is_cell, marks, mark, written_formula, all_written_formula, init_need_of, init_need, marking, init_effect_of, init_effect, init_known}
 use Rattle.ac_policy.specs.PlainLaws.{extents_ground, marked_plain, all_marked_plain, marking_plain}
 use Rattle.ac_policy.specs.Opened.{hidden, term_shape, term_child, array_shape, array_child, formula_shape, formula_child}

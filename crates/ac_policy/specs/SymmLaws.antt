@@ -23,7 +23,7 @@ use Rattle.ac_policy.specs.declared.extents.ExtentTerms.{ExtentTerms}
 use Rattle.ac_policy.specs.declared.extents.ExtentTerms.TheVariants.{NoExtent, OneExtent, TwoExtents}
 use Rattle.ac_policy.specs.Extents.{extent_terms}
 use Rattle.ac_policy.specs.GoodExtents.{HasSizes}
-use Rattle.ac_policy.specs.ExtentsHold.{ExtentsAre, extents_are}
+use Rattle.ac_policy.specs.ExtentValues.{ExtentsAre, extents_are}
 use Rattle.ac_policy.specs.Symm.{is_listed, symmetric_formula, when, symm_need_of, symm_need}
 use Rattle.ac_policy.specs.Bounds.{no_shadow, no_effect, nothing_known}
 use Rattle.ac_policy.specs.BoundsLaws.{below}
