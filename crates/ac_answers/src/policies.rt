@@ -3,7 +3,7 @@ use crate::ask::{Answer, list_at, text_at};
 use crate::flow::{node_of, program};
 use crate::formulas::copied_symbol;
 use ac_formula_printer::{print_formula, print_term};
-use ac_logic::{Change, Formula, Sym, Term};
+use ac_logic::{ArrayTerm, Change, Formula, Sym, Term};
 use ac_policy::{AnyPolicy, Policy, Site, SiteKind, scalar_write};
 use ac_shared::Shared;
 use ac_tree::{Name, NodeId, Program, Stmt, StmtKind};
@@ -198,16 +198,30 @@ fn change_value(alloc: Global, change: &Change) -> Result<Value, AllocError> {
         }
         Change::Array(symbol, array) => {
             let symbol = symbol_text(alloc, symbol)?;
-            let i = Shared::new(alloc, Term::Num(0))?;
-            let j = i.share()?;
-            let read = Term::Read(array.share()?, i, j);
-            let new = print_term(alloc, &read)?;
+            let new = array_text(alloc, array)?;
             json!(in alloc; ["array", symbol, new])
         }
     }
 }
 
+fn array_text(alloc: Global, array: &Shared<ArrayTerm>) -> Result<String, AllocError> {
+    let read = first_cell(alloc, array)?;
+    let text = print_term(alloc, read.get());
+    drop(read);
+    text
+}
+
+/// The read of an array at its first cell.
+fn first_cell(alloc: Global, array: &Shared<ArrayTerm>) -> Result<Shared<Term>, AllocError> {
+    let i = Shared::new(alloc, Term::Num(0))?;
+    let j = i.share()?;
+    let array = array.share()?;
+    Shared::new(alloc, Term::Read(array, i, j))
+}
+
 fn symbol_text(alloc: Global, symbol: &Sym) -> Result<String, AllocError> {
-    let term = Term::Sym(copied_symbol(symbol)?);
-    print_term(alloc, &term)
+    let term = Shared::new(alloc, Term::Sym(copied_symbol(symbol)?))?;
+    let text = print_term(alloc, term.get());
+    drop(term);
+    text
 }
