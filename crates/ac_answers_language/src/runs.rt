@@ -1,7 +1,6 @@
 //! Asks about runs.
-use crate::ask::{Answer, list_at, text_at};
 use crate::flow::program;
-use crate::linear::{whole, wholes};
+use ac_asks::{Answer, list_at, text_at, whole, wholes};
 use ac_run::{Cell, Event, Start, StartCell};
 use ac_stepper::{Config, StartFault, StepFault, Stepped, begin_run};
 use ac_tree::Name;

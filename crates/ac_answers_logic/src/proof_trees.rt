@@ -1,7 +1,6 @@
 //! Asks about proofs.
-use crate::ask::{Answer, list_at, text_at};
 use crate::formulas::{formula, formula_at, term};
-use crate::linear::{number_of, numbers_of};
+use ac_asks::{Answer, list_at, number_of, numbers_of, text_at};
 use ac_logic::Formula;
 use ac_proof::{CheckFault, ProofTree, Rule, RuleName, StepPath};
 use ac_shared::Shared;
