@@ -60,13 +60,7 @@ fn proof(alloc: Global, asked: &Value, levels: u64) -> anyhow::Result<Option<Pro
     if levels == 0 {
         return Ok(None);
     }
-    let Some(rule) = rule(alloc, asked)? else {
-        return Ok(None);
-    };
-    let (Some(goal), Some(list)) = (
-        formula_at(alloc, asked, "goal")?,
-        list_at(asked, "premises"),
-    ) else {
+    let Some(list) = list_at(asked, "premises") else {
         return Ok(None);
     };
     let mut premises = Items::new(alloc);
@@ -76,11 +70,26 @@ fn proof(alloc: Global, asked: &Value, levels: u64) -> anyhow::Result<Option<Pro
             None => return Ok(None),
         }
     }
-    Ok(Some(ProofTree {
-        rule,
-        goal,
-        premises,
-    }))
+    last_step(alloc, asked, premises)
+}
+
+/// The step of a proof behind its premises.
+fn last_step(
+    alloc: Global,
+    asked: &Value,
+    premises: Items<ProofTree>,
+) -> anyhow::Result<Option<ProofTree>> {
+    let Some(goal) = formula_at(alloc, asked, "goal")? else {
+        return Ok(None);
+    };
+    match rule(alloc, asked)? {
+        Some(rule) => Ok(Some(ProofTree {
+            rule,
+            goal,
+            premises,
+        })),
+        None => Ok(None),
+    }
 }
 
 /// A rule by its name and its data.

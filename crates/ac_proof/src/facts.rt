@@ -13,9 +13,13 @@ pub struct Facts {
 
 impl Model for Facts {
     ghost use Rattle.std.specs.Prelude.{List};
+    ghost use Rattle.std.specs.Coded.{codes};
+    ghost use Rattle.ac_logic.specs.contracts.formula.Term as term;
     ghost use Rattle.ac_linear.specs.declared.linear.Linear.{Linear};
 
     ghost Value = { List Linear };
+
+    ghost coded = { Prim.hlevel (codes, term.the_row.coded) };
 
     ghost view = { λ f. f.items.items };
 }
