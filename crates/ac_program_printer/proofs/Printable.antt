@@ -1,6 +1,6 @@
--- Which programs a printed text gives back: each name in them is a name and no reserved word, and each number is one that
--- its type holds. A program that code has in hand has no other numbers.
-use Rattle.std.specs.Prelude.{ℕ, ◌^◌, ◌<◌, ℤ, pos, negsuc, List, [], ◌∷◌}
+-- Each name of a program is a name and no reserved word, and each number is one that its type holds: what the proofs of
+-- printing go by. A program that code has in hand has no other numbers.
+use Rattle.std.specs.Prelude.{List, [], ◌∷◌}
 use Rattle.ac_tree.specs.declared.program.CondKind.{CondKind}
 use Rattle.ac_tree.specs.declared.program.CondKind.TheVariants.{True, False, Rel}
 use Rattle.ac_tree.specs.declared.program.ExprKind.{ExprKind}
@@ -20,15 +20,7 @@ use Rattle.ac_tree.specs.declared.program.StmtKind.TheVariants.{Set, Put, If', F
 use Rattle.ac_tree.specs.Patterns.{Negative, Plus, Minus, Times, OneIndex, TwoIndexes, Negation, Conjunction, Disjunction}
 use Rattle.ac_tree.specs.Tokens.{IsName}
 use Rattle.ac_program_printer.specs.Opened.{hidden, expr_shape, expr_child, cond_shape, cond_child}
-
--- 64 bits, without a sign and with one
-
-abbrev pub IsUnsigned : ℕ → Type 0
-IsUnsigned n = n < 2 ^ 64
-
-abbrev pub IsSigned : ℤ → Type 0
-IsSigned (pos n) = n < 2 ^ 63
-IsSigned (negsuc n) = n < 2 ^ 63
+use Rattle.ac_program_printer.specs.Names.{IsUnsigned, IsSigned}
 
 abbrev mutual
   unfolding hidden expr_shape expr_child
