@@ -116,17 +116,33 @@ module _ (barrier : ℕ → Bool) where
       deeper_while test body = first_of (search (rules, stmt_lemmas, from-items), grind (arith, stmt_lemmas, from-items))
 
       -- the same of the lists that code has
-      pub part_comes : (n : NodeId) (test : Cond) (yes_ no_ ys zs : List Stmt) (r m b : Bool) → ys ≡ yes_ → zs ≡ no_ → r ≡ (if list_begins at zs then list_comes barrier t c at zs else list_comes barrier t c at ys) → m ≡ barrier n.0 → b ≡ (r && not m) →
-          b ≡ comes_out barrier t c at n (stmt.If test yes_ no_)
-      part_comes n test yes_ no_ ys zs r m b e f h g k =
-          k ∙ (ap (λ w. w && not m) h ∙ (ap (λ w. (if list_begins at zs then list_comes barrier t c at zs else list_comes barrier t c at w) && not m) e
-          ∙ (ap (λ w. (if list_begins at w then list_comes barrier t c at w else list_comes barrier t c at yes_) && not m) f
-          ∙ (ap (λ w. (if list_begins at no_ then list_comes barrier t c at no_ else list_comes barrier t c at yes_) && not w) g ∙ sym (comes_if n test yes_ no_)))))
+      pub no_comes : (n : NodeId) (test : Cond) (yes_ no_ zs us : List Stmt) (b r : Bool) → zs ≡ no_ → us ≡ no_ → b ≡ list_begins at zs → b ≡ true → r ≡ (list_comes barrier t c at us && not (barrier n.0)) →
+          r ≡ comes_out barrier t c at n (stmt.If test yes_ no_)
+      no_comes n test yes_ no_ zs us b r e f g h k =
+          let s : list_begins at no_ ≡ true = ap (list_begins at) (sym e) ∙ (sym g ∙ h) in
+          k ∙ (ap (λ w. list_comes barrier t c at w && not (barrier n.0)) f
+          ∙ (ap (λ (v : Bool). (if v then list_comes barrier t c at no_ else list_comes barrier t c at yes_) && not (barrier n.0)) (sym s) ∙ sym (comes_if n test yes_ no_)))
 
-      pub part_added : (test : Cond) (yes_ no_ ys zs : List Stmt) (was now : List NodeId) → ys ≡ yes_ → zs ≡ no_ → now ≡ was ++ (if list_begins at zs then list_from barrier t c at zs else list_from barrier t c at ys) → now ≡ was ++ deeper barrier t c at (stmt.If test yes_ no_)
-      part_added test yes_ no_ ys zs was now e f h =
-          h ∙ (ap (λ w. was ++ (if list_begins at zs then list_from barrier t c at zs else list_from barrier t c at w)) e
-          ∙ (ap (λ w. was ++ (if list_begins at w then list_from barrier t c at w else list_from barrier t c at yes_)) f ∙ ap (λ ns. was ++ ns) (sym (deeper_if test yes_ no_))))
+      pub yes_comes : (n : NodeId) (test : Cond) (yes_ no_ zs us : List Stmt) (b r : Bool) → zs ≡ no_ → us ≡ yes_ → b ≡ list_begins at zs → b ≡ false → r ≡ (list_comes barrier t c at us && not (barrier n.0)) →
+          r ≡ comes_out barrier t c at n (stmt.If test yes_ no_)
+      yes_comes n test yes_ no_ zs us b r e f g h k =
+          let s : list_begins at no_ ≡ false = ap (list_begins at) (sym e) ∙ (sym g ∙ h) in
+          k ∙ (ap (λ w. list_comes barrier t c at w && not (barrier n.0)) f
+          ∙ (ap (λ (v : Bool). (if v then list_comes barrier t c at no_ else list_comes barrier t c at yes_) && not (barrier n.0)) (sym s) ∙ sym (comes_if n test yes_ no_)))
+
+      pub no_added : (test : Cond) (yes_ no_ zs us : List Stmt) (b : Bool) (was now : List NodeId) → zs ≡ no_ → us ≡ no_ → b ≡ list_begins at zs → b ≡ true → now ≡ was ++ list_from barrier t c at us →
+          now ≡ was ++ deeper barrier t c at (stmt.If test yes_ no_)
+      no_added test yes_ no_ zs us b was now e f g h k =
+          let s : list_begins at no_ ≡ true = ap (list_begins at) (sym e) ∙ (sym g ∙ h) in
+          k ∙ (ap (λ w. was ++ list_from barrier t c at w) f
+          ∙ (ap (λ (v : Bool). was ++ (if v then list_from barrier t c at no_ else list_from barrier t c at yes_)) (sym s) ∙ ap (λ ns. was ++ ns) (sym (deeper_if test yes_ no_))))
+
+      pub yes_added : (test : Cond) (yes_ no_ zs us : List Stmt) (b : Bool) (was now : List NodeId) → zs ≡ no_ → us ≡ yes_ → b ≡ list_begins at zs → b ≡ false → now ≡ was ++ list_from barrier t c at us →
+          now ≡ was ++ deeper barrier t c at (stmt.If test yes_ no_)
+      yes_added test yes_ no_ zs us b was now e f g h k =
+          let s : list_begins at no_ ≡ false = ap (list_begins at) (sym e) ∙ (sym g ∙ h) in
+          k ∙ (ap (λ w. was ++ list_from barrier t c at w) f
+          ∙ (ap (λ (v : Bool). was ++ (if v then list_from barrier t c at no_ else list_from barrier t c at yes_)) (sym s) ∙ ap (λ ns. was ++ ns) (sym (deeper_if test yes_ no_))))
 
       pub for_added : (x : List ℕ) (lo hi : Expr) (body ys : List Stmt) (was now : List NodeId) → ys ≡ body → now ≡ was ++ list_from barrier t c at ys → now ≡ was ++ deeper barrier t c at (stmt.For x lo hi body)
       for_added x lo hi body ys was now e h = h ∙ (ap (λ w. was ++ list_from barrier t c at w) e ∙ ap (λ ns. was ++ ns) (sym (deeper_for x lo hi body)))

@@ -1,13 +1,12 @@
 -- One statement of a block: control goes on behind it, or stops there.
-use Rattle.std.proofs.Common.{◌≡◌, ℕ, Bool, true, false, ◌&&◌, ◌||◌, not, if◌then◌else◌, List, [], ◌∷◌, ◌++◌, ap, refl, sym, ◌∙◌, append_assoc, ◌+◌, ◌<◌, length, drop, take, get_or}
+use Rattle.std.proofs.Common.{◌≡◌, ℕ, Bool, true, false, ◌&&◌, ◌||◌, not, if◌then◌else◌, List, [], ◌∷◌, ◌++◌, ap, refl, sym, ◌∙◌, append_assoc, ◌+◌, ◌<◌, length, drop, get_or}
 use Rattle.std.proofs.lemmas.List.{drop_more, append-nil}
-use Rattle.std.proofs.Math.Seq.{take-append_seam}
 use Rattle.ac_tree.specs.declared.node.NodeId.{NodeId}
 use Rattle.ac_tree.specs.declared.path.Target.{Target}
 use Rattle.ac_tree.specs.declared.program.Stmt.{Stmt}
 use Rattle.ac_flow.specs.Leads.{is_barrier}
 use Rattle.ac_flow.specs.Through.{passes, list_passes}
-use Rattle.ac_walk.specs.Walks.{met_by, past_by, meets, entered, list_meets, list_entered, parts}
+use Rattle.ac_walk.specs.Walks.{met_by, past_by, meets, entered, list_meets, list_entered}
 
 -- truth values: whether the target is met inside, a barrier stands behind, control passes, the barrier is the target
 
@@ -103,20 +102,6 @@ module _ (barrier : ℕ → Bool) (t : Target) where
       g ∙ (ap (λ ns. was ++ (x.node.id ∷ ns)) (sym (append-nil (entered barrier t x.kind)))
       ∙ (ap (λ b. was ++ (x.node.id ∷ (entered barrier t x.kind ++ (if b then list_entered barrier t (drop (i + 1) sts) else [])))) (sym k)
       ∙ ap (λ ns. was ++ list_entered barrier t ns) (sym (opened sts i x h e))))
-
--- the two parts of an `if`, in the first of which the target isn't met
-
-parts_base : (py mn pn : Bool) (old ys ns : List NodeId) → ((if py && not mn then old ++ ys else old) ++ (if mn || (not mn && pn) then ns else [])) ≡ old ++ parts false mn py pn ys ns
-parts_base true true pn old ys ns = refl
-parts_base false true pn old ys ns = refl
-parts_base true false pn old ys ns = append_assoc old ys (if pn then ns else [])
-parts_base false false pn old ys ns = refl
-
-pub parts_added : (my py mn pn b1 b2 b3 : Bool) (floor : ℕ) (old ys ns other via past to : List NodeId) → floor ≡ length old → my ≡ false → via ≡ old ++ ys → b1 ≡ (not my && py) → b2 ≡ mn → b3 ≡ (not mn && pn) → other ≡ ns →
-    past ≡ (if b1 && not b2 then via else take floor via) → to ≡ past ++ (if b2 || b3 then other else []) → to ≡ old ++ parts my mn py pn ys ns
-parts_added my py mn pn b1 b2 b3 floor old ys ns other via past to f m v x y z o p t =
-    let back : take floor (old ++ ys) ≡ old = ap (λ n. take n (old ++ ys)) f ∙ take-append_seam old ys in
-    rw (t, p, o, x, y, z, v, m, back) (parts_base py mn pn old ys ns)
 
 -- a test, and what control enters behind it
 pub test_ends : (old lefts more to : List NodeId) (n : NodeId) (b : Bool) → b ≡ true → to ≡ old ++ n ∷ lefts → to ≡ old ++ n ∷ (lefts ++ (if b then [] else more))

@@ -1,5 +1,5 @@
 //! What control enters from a cut on.
-ghost use Rattle.std.specs.Prelude.{◌≡◌, [], ◌∷◌, ◌++◌, if◌then◌else◌, drop, IfOk, OnOk};
+ghost use Rattle.std.specs.Prelude.{◌≡◌, [], ◌∷◌, ◌++◌, ◌&&◌, not, if◌then◌else◌, drop, IfOk, OnOk};
 ghost use Rattle.ac_flow.specs.Marks.{mark_at};
 ghost use Rattle.ac_walk.specs.Walks as walks;
 
@@ -110,8 +110,10 @@ fn add_deeper(
 {
     match &stmt.kind {
         StmtKind::If { yes, no, .. } => {
-            let on = add_in_part(found, aim, cut, node, yes.as_slice(), no.as_slice())?;
-            Ok(on && !is_marked(aim.barriers, stmt.node.id))
+            if begins_by(no.as_slice(), node) {
+                return add_in_part(found, aim, cut, node, stmt.node.id, no.as_slice());
+            }
+            add_in_part(found, aim, cut, node, stmt.node.id, yes.as_slice())
         }
         StmtKind::For { body, .. } => {
             add_from(found, aim, cut, node, body.as_slice())?;
@@ -128,23 +130,22 @@ fn add_deeper(
     }
 }
 
-/// Adds what control enters from a cut on in the part of an `if` that holds it.
+/// Adds what control enters from a cut on in the part of an `if` that holds it, and says whether it goes on behind the `if`
+/// without having met the target in the part.
 #[cycle(from)]
 fn add_in_part(
     found: &mut Vec<NodeId>,
     aim: &Aim,
     cut: Cut,
     node: NodeId,
-    yes: &[Stmt],
-    no: &[Stmt],
+    choice: NodeId,
+    part: &[Stmt],
 ) -> Result<bool, AllocError>
-    ensures on { IfOk result (λ on. on ≡ (if walks.list_begins node no.now then walks.list_comes (mark_at aim.now.barriers.now) aim.now.target cut node no.now else walks.list_comes (mark_at aim.now.barriers.now) aim.now.target cut node yes.now)) }
-    ensures added { OnOk result (found.new.items ≡ found.old.items ++ (if walks.list_begins node no.now then walks.list_from (mark_at aim.now.barriers.now) aim.now.target cut node no.now else walks.list_from (mark_at aim.now.barriers.now) aim.now.target cut node yes.now)) }
+    ensures on { IfOk result (λ on. on ≡ (walks.list_comes (mark_at aim.now.barriers.now) aim.now.target cut node part.now && not (mark_at aim.now.barriers.now choice.0))) }
+    ensures added { OnOk result (found.new.items ≡ found.old.items ++ walks.list_from (mark_at aim.now.barriers.now) aim.now.target cut node part.now) }
 {
-    if begins_by(no, node) {
-        return add_from(found, aim, cut, node, no);
-    }
-    add_from(found, aim, cut, node, yes)
+    let on = add_from(found, aim, cut, node, part)?;
+    Ok(on && !is_marked(aim.barriers, choice))
 }
 
 fn begins_by(block: &[Stmt], node: NodeId) -> bool

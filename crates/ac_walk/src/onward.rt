@@ -1,5 +1,5 @@
 //! What control enters from the beginning of a block on.
-ghost use Rattle.std.specs.Prelude.{◌≡◌, ◌≤◌, [], ◌∷◌, ◌++◌, ◌&&◌, ◌||◌, not, if◌then◌else◌, take, drop, vec_len, IfOk, OnOk};
+ghost use Rattle.std.specs.Prelude.{◌≡◌, ◌≤◌, false, [], ◌∷◌, ◌++◌, ◌&&◌, ◌||◌, not, if◌then◌else◌, take, drop, vec_len, IfOk, OnOk};
 ghost use Rattle.ac_flow.specs.Marks.{mark_at};
 ghost use Rattle.ac_flow.specs.Through.{passes, list_passes};
 ghost use Rattle.ac_walk.specs.Walks.{meets, met_by, past_by, entered, list_meets, list_entered};
