@@ -1,5 +1,5 @@
 -- The two parts of an `if`: what is entered in them, and how control comes through.
-use Rattle.std.proofs.Common.{◌≡◌, ◌≤◌, ℕ, Bool, true, false, ◌&&◌, ◌||◌, not, if◌then◌else◌, List, [], ◌∷◌, ◌++◌, ap, refl, sym, ◌∙◌, append_assoc, length, length-append, take, drop, arith}
+use Rattle.std.proofs.Common.{◌≡◌, ℕ, Bool, true, false, ◌&&◌, ◌||◌, not, if◌then◌else◌, List, [], ◌∷◌, ◌++◌, ap, refl, sym, ◌∙◌, append_assoc, length, take, drop}
 use Rattle.std.proofs.Math.Seq.{take-append_seam, drop-append_seam}
 use Rattle.ac_tree.specs.declared.node.NodeId.{NodeId}
 use Rattle.ac_tree.specs.declared.path.Target.{Target}
@@ -9,17 +9,9 @@ use Rattle.ac_tree.specs.declared.program.StmtKind.TheVariants as stmt
 use Rattle.ac_flow.specs.Through.{passes, list_passes}
 use Rattle.ac_walk.specs.Walks.{is_in_cond, lefts, parts, meets, entered, list_meets, list_entered}
 use Rattle.ac_walk.proofs.Rows.{if_met, if_on, if_added}
-use Rattle.ac_walk.proofs.Steps.{test_ends, test_goes_on}
+use Rattle.ac_walk.proofs.Steps.{test_goes_on}
 
 -- truth values: whether the target is met in the test and in each part, and whether control passes each part
-
-test_met : (c my mn r : Bool) → c ≡ true → r ≡ true → r ≡ (c || (my || mn))
-test_met true my mn r e h = h
-test_met false my mn r e h = cc
-
-test_on : (c my mn py pn r : Bool) → c ≡ true → r ≡ false → r ≡ (not (c || (my || mn)) && (py || pn))
-test_on true my mn py pn r e h = h
-test_on false my mn py pn r e h = cc
 
 yes_met : (c my mn r : Bool) → c ≡ false → r ≡ my → r ≡ true → r ≡ (c || (my || mn))
 yes_met true my mn r e h k = cc
@@ -68,25 +60,8 @@ both_joined : (b m : Bool) (floor middle : ℕ) (w ys ns two three to : List Nod
     to ≡ (if m then take floor three ++ drop middle three else three) → to ≡ w ++ (if b then ns else ys ++ ns)
 both_joined b m floor middle w ys ns two three to e f g h k t = rw (t, e, f, g, k, h) (between b w ys ns)
 
-pub grows : (was now more : List NodeId) (m n : ℕ) → m ≡ length was → n ≡ length now → now ≡ was ++ more → m ≤ n
-grows was now more m n e f h = omega (arith, ap length h, length-append was more)
-
 module _ (barrier : ℕ → Bool) (t : Target) (n : NodeId) (test : Cond) (yes_ no_ : List Stmt) where
-  -- the target is in the test
-  pub in_test_met : (c r : Bool) → c ≡ is_in_cond t test.kind → c ≡ true → r ≡ true → r ≡ meets barrier t n (stmt.If test yes_ no_)
-  in_test_met c r e k h = if_met barrier t n test yes_ no_ yes_ no_ r refl refl (test_met (is_in_cond t test.kind) (list_meets barrier t yes_) (list_meets barrier t no_) r (sym e ∙ k) h)
-
-  pub in_test_on : (c r : Bool) → c ≡ is_in_cond t test.kind → c ≡ true → r ≡ false → r ≡ (not (meets barrier t n (stmt.If test yes_ no_)) && passes barrier (stmt.If test yes_ no_))
-  in_test_on c r e k h =
-      if_on barrier t n test yes_ no_ yes_ no_ r refl refl
-      (test_on (is_in_cond t test.kind) (list_meets barrier t yes_) (list_meets barrier t no_) (list_passes barrier yes_) (list_passes barrier no_) r (sym e ∙ k) h)
-
-  pub in_test_added : (c : Bool) (was now : List NodeId) → c ≡ is_in_cond t test.kind → c ≡ true → now ≡ was ++ test.node.id ∷ lefts t test.kind → now ≡ was ++ entered barrier t (stmt.If test yes_ no_)
-  in_test_added c was now e k h =
-      let more : List NodeId = parts (list_meets barrier t yes_) (list_meets barrier t no_) (list_passes barrier yes_) (list_passes barrier no_) (list_entered barrier t yes_) (list_entered barrier t no_) in
-      if_added barrier t test yes_ no_ yes_ no_ was now refl refl (test_ends was (lefts t test.kind) more now test.node.id (is_in_cond t test.kind) (sym e ∙ k) h)
-
-  -- it is in the first part
+  -- the target is in the first part
   module _ (ys : List Stmt) (c m : Bool) (a : ys ≡ yes_) (e : c ≡ is_in_cond t test.kind) (k : c ≡ false) (h : m ≡ list_meets barrier t ys) where
     pub in_yes_met : m ≡ true → m ≡ meets barrier t n (stmt.If test yes_ no_)
     in_yes_met g = if_met barrier t n test yes_ no_ ys no_ m a refl (yes_met (is_in_cond t test.kind) (list_meets barrier t ys) (list_meets barrier t no_) m (sym e ∙ k) h g)
@@ -103,7 +78,7 @@ module _ (barrier : ℕ → Bool) (t : Target) (n : NodeId) (test : Cond) (yes_ 
         let w : two ≡ one ++ more = v ∙ ap (λ ns. one ++ ns) (of_yes (list_meets barrier t ys) (list_meets barrier t no_) (list_passes barrier ys) (list_passes barrier no_) (list_entered barrier t ys) (list_entered barrier t no_) (sym h ∙ g)) in
         if_added barrier t test yes_ no_ ys no_ was two a refl (test_goes_on was (lefts t test.kind) more one two test.node.id (is_in_cond t test.kind) (sym e ∙ k) u w)
 
-    -- it is not
+    -- or it is not
     module _ (zs : List Stmt) (q : Bool) (d : zs ≡ no_) (g : m ≡ false) (l : q ≡ list_meets barrier t zs) where
       pub in_no_met : (r : Bool) → r ≡ q → r ≡ meets barrier t n (stmt.If test yes_ no_)
       in_no_met r i = if_met barrier t n test yes_ no_ ys zs r a d (no_met (is_in_cond t test.kind) (list_meets barrier t ys) (list_meets barrier t zs) m r (sym e ∙ k) h g (i ∙ l))

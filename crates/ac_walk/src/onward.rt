@@ -27,7 +27,7 @@ pub struct Course {
 
 /// Adds what control enters from the beginning of a block on, up to the target.
 #[cycle(entered)]
-#[tactic(auto, using(crate::proofs::Steps::step_meets, crate::proofs::Steps::step_passes, crate::proofs::Steps::step_entered, crate::proofs::Steps::stop_meets, crate::proofs::Steps::stop_on, crate::proofs::Steps::stop_entered))]
+#[tactic(auto, using(crate::proofs::Steps::stop_meets, crate::proofs::Steps::stop_on, crate::proofs::Steps::stop_entered))]
 pub fn add_block(found: &mut Vec<NodeId>, aim: &Aim, block: &[Stmt]) -> Result<Course, AllocError>
     ensures met { IfOk result (λ course. course.met ≡ list_meets (mark_at aim.now.barriers.now) aim.now.target block.now) }
     ensures on { IfOk result (λ course. course.on ≡ (not (list_meets (mark_at aim.now.barriers.now) aim.now.target block.now) && list_passes (mark_at aim.now.barriers.now) block.now)) }
