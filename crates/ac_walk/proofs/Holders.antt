@@ -1,5 +1,5 @@
 -- The statement of a list that holds a number, found by going along the list.
-use Rattle.std.proofs.Common.{◌≡◌, ℕ, suc, nat_le, Bool, true, false, if◌then◌else◌, List, [], ◌∷◌, ap, refl, sym, ◌∙◌, ◌+◌, ◌<◌, ◌≤◌, length, drop, get_or, arith, length-drop}
+use Rattle.std.proofs.Common.{◌≡◌, ℕ, suc, nat_le, true, false, if◌then◌else◌, List, [], ◌∷◌, ap, refl, sym, ◌∙◌, ◌+◌, ◌<◌, ◌≤◌, length, drop, get_or, arith, length-drop}
 use Rattle.std.proofs.lemmas.Bool.Decides.{nat_tests}
 use Rattle.std.proofs.lemmas.List.{drop_more}
 use Rattle.ac_tree.specs.declared.node.NodeId.{NodeId}

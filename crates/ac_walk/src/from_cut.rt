@@ -39,7 +39,7 @@ pub fn add_path(
     }
 }
 
-/// Adds what control enters from a cut in a block on, and says whether it comes to the end of the block without having met the
+/// Adds what control enters from a cut in a block on, and says whether it comes to the end of the block and has not met the
 /// target.
 #[cycle(from)]
 fn add_from(

@@ -118,8 +118,8 @@ fn turns(met: bool) -> Course
     Course { met, on: false }
 }
 
-/// Adds what control enters in a part of an `if`. A part in which it neither meets the target nor comes to the end is not on its
-/// way.
+/// Adds what control enters in a part of an `if`, unless the part is off its way: control neither meets the target in it nor
+/// comes to its end.
 #[cycle(entered)]
 fn add_part(found: &mut Vec<NodeId>, aim: &Aim, block: &[Stmt]) -> Result<Course, AllocError>
     ensures met { IfOk result (λ course. course.met ≡ list_meets (mark_at aim.now.barriers.now) aim.now.target block.now) }
@@ -134,8 +134,8 @@ fn add_part(found: &mut Vec<NodeId>, aim: &Aim, block: &[Stmt]) -> Result<Course
     Ok(course)
 }
 
-/// Joins the courses through the two parts of an `if`, in the first of which the target isn't met. Where it is met in the second,
-/// whose nodes stand behind `middle`, the first, whose nodes stand between, is not on the way.
+/// Joins the courses through the two parts of an `if`, whose nodes stand from `floor` and from `middle` on. The target isn't
+/// met in the first; where it is met in the second, the first is off the way.
 fn joined(
     found: &mut Vec<NodeId>,
     floor: usize,

@@ -6,11 +6,12 @@ use Rattle.ac_walk.proofs.onward.+entered.Goals as goal
 
 pub add_block-loop-stmt-preserved : goal.add_block-loop-stmt-preserved
 add_block-loop-stmt-preserved t c =
-    let past : Past (mark_at c.args.aim.now.barriers.now) c.args.aim.now.target c.stmt-item.result ≡ true = sym c.in_ok-course.ensures.on ∙ goes_on c.in_ok-course.course.on c.if-not-course.false in
-    (step_meets (mark_at c.args.aim.now.barriers.now) c.args.aim.now.target c.args.block.now c.loop-stmt.stmt-index c.stmt-item.result c.loop-stmt-test.true c.stmt-item.is past ∙ c.loop-stmt.invariant.0,
-    step_passes (mark_at c.args.aim.now.barriers.now) c.args.aim.now.target c.args.block.now c.loop-stmt.stmt-index c.stmt-item.result c.loop-stmt-test.true c.stmt-item.is past ∙ c.loop-stmt.invariant.1,
-    step_entered (mark_at c.args.aim.now.barriers.now) c.args.aim.now.target c.args.block.now c.loop-stmt.stmt-index c.stmt-item.result c.loop-stmt.found.items c.add_stmt.new.found.items
-    c.loop-stmt-test.true c.stmt-item.is past c.in_ok-course.ensures.added ∙ c.loop-stmt.invariant.2)
+    let past : Past (mark_at c.args.aim.now.barriers.now) c.args.aim.now.target c.stmt-item.result ≡ true = sym c.in_ok-course.ensures.on ∙ goes_on c.in_ok-course.course.on c.if-not-course.false in (
+      step_meets (mark_at c.args.aim.now.barriers.now) c.args.aim.now.target c.args.block.now c.loop-stmt.stmt-index c.stmt-item.result c.loop-stmt-test.true c.stmt-item.is past ∙ c.loop-stmt.invariant.0,
+      step_passes (mark_at c.args.aim.now.barriers.now) c.args.aim.now.target c.args.block.now c.loop-stmt.stmt-index c.stmt-item.result c.loop-stmt-test.true c.stmt-item.is past ∙ c.loop-stmt.invariant.1,
+      step_entered (mark_at c.args.aim.now.barriers.now) c.args.aim.now.target c.args.block.now c.loop-stmt.stmt-index c.stmt-item.result c.loop-stmt.found.items c.add_stmt.new.found.items
+          c.loop-stmt-test.true c.stmt-item.is past c.in_ok-course.ensures.added ∙ c.loop-stmt.invariant.2,
+    )
 
 pub add_inside-returns-then-first-clause-met : goal.add_inside-returns-then-first-clause-met
 add_inside-returns-then-first-clause-met t c =
