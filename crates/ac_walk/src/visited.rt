@@ -12,7 +12,8 @@ use ac_flow::marks::mark_cuts;
 use ac_tree::{Cut, Item, ItemKind, NodeId, Pair, Program};
 use std::alloc::{AllocError, Global};
 
-/// The nodes that the condition of a pair visits, in the order of their numbers.
+/// The nodes that the condition of a pair visits: the inputs, what encloses the cut and what the paths from it enter, and the
+/// target.
 pub fn walk(
     alloc: Global,
     program: &Program,
