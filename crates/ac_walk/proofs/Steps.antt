@@ -60,9 +60,9 @@ free_on false true true h = cc
 free_on false true false h = refl
 free_on false false p h = refl
 
-pub goes_on : (b : Bool) → not b ≡ false → b ≡ true
-goes_on true h = refl
-goes_on false h = cc
+pub not_off : (b : Bool) → not b ≡ false → b ≡ true
+not_off true h = refl
+not_off false h = cc
 
 opened : (sts : List Stmt) (i : ℕ) (x : Stmt) → i < length sts → x ≡ get_or sts i x → drop i sts ≡ x ∷ drop (i + 1) sts
 opened sts i x h e = sym (ap (λ y. y ∷ drop (i + 1) sts) e ∙ sym (drop_more sts i x h))

@@ -1,12 +1,12 @@
 use Rattle.std.proofs.Common.{◌≡◌, true, sym, ◌∙◌}
 use Rattle.ac_flow.specs.Marks.{mark_at}
 use Rattle.ac_walk.proofs.Choices.{in_yes_met, in_yes_on, in_yes_added, in_no_met, in_no_on, in_no_added}
-use Rattle.ac_walk.proofs.Steps.{Past, goes_on, step_meets, step_passes, step_entered}
+use Rattle.ac_walk.proofs.Steps.{Past, not_off, step_meets, step_passes, step_entered}
 use Rattle.ac_walk.proofs.onward.+entered.Goals as goal
 
 pub add_block-loop-stmt-preserved : goal.add_block-loop-stmt-preserved
 add_block-loop-stmt-preserved t c =
-    let past : Past (mark_at c.args.aim.now.barriers.now) c.args.aim.now.target c.stmt-item.result ≡ true = sym c.in_ok-course.ensures.on ∙ goes_on c.in_ok-course.course.on c.if-not-course.false in (
+    let past : Past (mark_at c.args.aim.now.barriers.now) c.args.aim.now.target c.stmt-item.result ≡ true = sym c.in_ok-course.ensures.on ∙ not_off c.in_ok-course.course.on c.if-not-course.false in (
       step_meets (mark_at c.args.aim.now.barriers.now) c.args.aim.now.target c.args.block.now c.loop-stmt.stmt-index c.stmt-item.result c.loop-stmt-test.true c.stmt-item.is past ∙ c.loop-stmt.invariant.0,
       step_passes (mark_at c.args.aim.now.barriers.now) c.args.aim.now.target c.args.block.now c.loop-stmt.stmt-index c.stmt-item.result c.loop-stmt-test.true c.stmt-item.is past ∙ c.loop-stmt.invariant.1,
       step_entered (mark_at c.args.aim.now.barriers.now) c.args.aim.now.target c.args.block.now c.loop-stmt.stmt-index c.stmt-item.result c.loop-stmt.found.items c.add_stmt.new.found.items
