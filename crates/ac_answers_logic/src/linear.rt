@@ -1,6 +1,6 @@
 //! Asks about linear normal forms.
-use crate::ask::{Answer, list_at, text_at};
 use crate::formulas::term;
+use ac_asks::{Answer, list_at, numbers_of, text_at, whole};
 use ac_linear::{LinFault, Linear};
 use ac_logic::Term;
 use ac_shared::Shared;
@@ -32,23 +32,6 @@ fn described(alloc: Global, form: &Linear) -> anyhow::Result<Value> {
     }
     let constant = whole(alloc, form.constant)?;
     Ok(json!(in alloc; {"constant": constant, "parts": parts})?)
-}
-
-/// A number, as a text of its decimals beyond 64 bits.
-pub fn whole(alloc: Global, number: i128) -> anyhow::Result<Value> {
-    match i64::try_from(number) {
-        Ok(small) => Ok(Value::from(small)),
-        Err(_) => Ok(Value::String(format!(in alloc; "{number}")?)),
-    }
-}
-
-/// The same of each number.
-pub fn wholes(alloc: Global, numbers: &[i128]) -> anyhow::Result<Vec<Value>> {
-    let mut list = Vec::new(alloc);
-    for number in numbers.iter() {
-        list.push(whole(alloc, *number)?)?;
-    }
-    Ok(list)
 }
 
 /// The normal form of a term.
@@ -109,34 +92,4 @@ fn forms_of(alloc: Global, terms: &[Shared<Term>]) -> Result<Option<Vec<Linear>>
         }
     }
     Ok(Some(forms))
-}
-
-/// The numbers of a list.
-pub fn numbers_of(alloc: Global, list: &[Value]) -> Result<Option<Vec<u64>>, AllocError> {
-    let mut numbers = Vec::new(alloc);
-    for value in list.iter() {
-        match number_of(value) {
-            Some(number) => numbers.push(number)?,
-            None => return Ok(None),
-        }
-    }
-    Ok(Some(numbers))
-}
-
-/// A number of 64 bits without sign, also as a text of its decimals.
-pub fn number_of(value: &Value) -> Option<u64> {
-    match value.as_str() {
-        Some(text) => decimal_number(text),
-        None => value.as_u64(),
-    }
-}
-
-fn decimal_number(text: &str) -> Option<u64> {
-    if text.starts_with('+') {
-        return None;
-    }
-    match text.parse::<u64>() {
-        Ok(number) => Some(number),
-        Err(_) => None,
-    }
 }

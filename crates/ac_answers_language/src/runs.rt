@@ -1,7 +1,6 @@
 //! Asks about runs.
-use crate::ask::{Answer, list_at, text_at};
 use crate::flow::program;
-use crate::linear::{whole, wholes};
+use ac_asks::{Answer, list_at, text_at, whole, wholes};
 use ac_run::{Cell, Event, Start, StartCell};
 use ac_stepper::{Config, StartFault, StepFault, Stepped, begin_run};
 use ac_tree::Name;
@@ -43,7 +42,7 @@ pub fn run(alloc: Global, ask: &Value) -> Answer {
         return Ok(None);
     }
     match begin_run(alloc, &program, &start) {
-        Ok(config) => ran(alloc, config, steps),
+        Ok(mut config) => ran(alloc, &mut config, steps),
         Err(StartFault::Fit { index }) => Ok(Some(json!(in alloc; {"fit": index})?)),
         Err(StartFault::OutOfMemory) => Err(anyhow::Error::from(AllocError)),
     }
@@ -108,21 +107,27 @@ fn number_of(value: &Value) -> Option<i128> {
     }
 }
 
-fn ran(alloc: Global, mut config: Config<'_>, steps: u64) -> Answer {
+fn ran(alloc: Global, config: &mut Config<'_>, steps: u64) -> Answer {
     let mut told = Told {
         stretches: Vec::new(alloc),
         events: Vec::new(alloc),
         silent: 0,
     };
+    tell(alloc, config, steps, &mut told)?;
+    let stretches = stretch_values(alloc, told.stretches.as_slice())?;
+    let events = told.events;
+    Ok(Some(json!(in alloc; {"steps": stretches, "trace": events})?))
+}
+
+/// Makes the steps, and tells how each ended and what it added to the trace.
+fn tell(alloc: Global, config: &mut Config<'_>, steps: u64, told: &mut Told) -> anyhow::Result<()> {
     for _ in 0..steps {
         let before = config.trace().len();
         let word = word_of(config.step())?;
         count(&mut told.stretches, word)?;
-        add_events(alloc, &mut told, config.trace(), before)?;
+        add_events(alloc, told, config.trace(), before)?;
     }
-    let stretches = stretch_values(alloc, told.stretches.as_slice())?;
-    let events = told.events;
-    Ok(Some(json!(in alloc; {"steps": stretches, "trace": events})?))
+    Ok(())
 }
 
 fn word_of(step: Result<Stepped, StepFault>) -> Result<&'static str, AllocError> {

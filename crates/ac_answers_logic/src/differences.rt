@@ -2,8 +2,7 @@
 ghost use Rattle.std.specs.Prelude.{IfOk, IfSome};
 ghost use Rattle.ac_diff.specs.Differences.{AreFacts, IsFact, IsSide};
 
-use crate::ask::{Answer, list_at};
-use crate::linear::wholes;
+use ac_asks::{Answer, list_at, wholes};
 use ac_diff::{Diff, DiffAnswer};
 use serde_json::{Value, json};
 use std::alloc::{AllocError, Global};

@@ -1,5 +1,5 @@
 use Rattle.std.proofs.Common.{◌<◌}
-use Rattle.ac_answers.proofs.proof_trees.+proof.Given as goal
+use Rattle.ac_answers_logic.proofs.proof_trees.+proof.Given as goal
 
 abbrev pub decreases-proof : goal.decreases-proof
 decreases-proof l = l.levels

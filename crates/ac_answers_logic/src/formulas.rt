@@ -1,8 +1,8 @@
 //! Asks about formulas and terms.
 ghost use Rattle.std.specs.Prelude.{IfOk, IfSome, length, ◌<◌, ◌^◌};
 
-use crate::ask::{Answer, list_at, text_at};
 use crate::height::is_low;
+use ac_asks::{Answer, list_at, text_at};
 use ac_formula_reader::FormulaFault;
 use ac_logic::{ArrayTerm, Change, Formula, Label, Sym, Term};
 use ac_shared::Shared;

@@ -1,5 +1,5 @@
 //! Asks about control flow.
-use crate::ask::{Answer, list_at, text_at};
+use ac_asks::{Answer, list_at, text_at};
 use ac_parse::ParseFault;
 use ac_tree::{Cut, NodeId, Pair, Place, Program, Target};
 use serde_json::{Value, json};

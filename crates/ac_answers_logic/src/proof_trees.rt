@@ -1,9 +1,8 @@
 //! Asks about proofs.
-use crate::ask::{Answer, list_at, text_at};
 use crate::formulas::{formula, formula_at, term};
-use crate::linear::{number_of, numbers_of};
+use ac_asks::{Answer, list_at, number_of, numbers_of, text_at};
 use ac_logic::Formula;
-use ac_proof::{CheckFault, ProofTree, Rule, StepPath};
+use ac_proof::{CheckFault, ProofTree, Rule, RuleName, StepPath};
 use ac_shared::Shared;
 use serde_json::{Value, json};
 use sqlite_items::Items;
@@ -61,13 +60,7 @@ fn proof(alloc: Global, asked: &Value, levels: u64) -> anyhow::Result<Option<Pro
     if levels == 0 {
         return Ok(None);
     }
-    let Some(rule) = rule(alloc, asked)? else {
-        return Ok(None);
-    };
-    let (Some(goal), Some(list)) = (
-        formula_at(alloc, asked, "goal")?,
-        list_at(asked, "premises"),
-    ) else {
+    let Some(list) = list_at(asked, "premises") else {
         return Ok(None);
     };
     let mut premises = Items::new(alloc);
@@ -77,11 +70,26 @@ fn proof(alloc: Global, asked: &Value, levels: u64) -> anyhow::Result<Option<Pro
             None => return Ok(None),
         }
     }
-    Ok(Some(ProofTree {
-        rule,
-        goal,
-        premises,
-    }))
+    last_step(alloc, asked, premises)
+}
+
+/// The step of a proof behind its premises.
+fn last_step(
+    alloc: Global,
+    asked: &Value,
+    premises: Items<ProofTree>,
+) -> anyhow::Result<Option<ProofTree>> {
+    let Some(goal) = formula_at(alloc, asked, "goal")? else {
+        return Ok(None);
+    };
+    match rule(alloc, asked)? {
+        Some(rule) => Ok(Some(ProofTree {
+            rule,
+            goal,
+            premises,
+        })),
+        None => Ok(None),
+    }
 }
 
 /// A rule by its name and its data.
@@ -89,12 +97,15 @@ fn rule(alloc: Global, asked: &Value) -> anyhow::Result<Option<Rule>> {
     let (Some(name), Some(data)) = (text_at(asked, "rule"), list_at(asked, "data")) else {
         return Ok(None);
     };
+    let Some(name) = RuleName::of(name) else {
+        return Ok(None);
+    };
     match name {
-        "hyp" => Ok(Some(hypothesis(data))),
-        "all-intro" => Ok(Some(new_name(data))),
-        "all-elim" => Ok(opening(alloc, data)?),
-        "linear" => Ok(Some(combination(alloc, data)?)),
-        _ => Ok(plain_rule(name, data)),
+        RuleName::Hyp => Ok(Some(hypothesis(data))),
+        RuleName::AllIntro => Ok(Some(new_name(data))),
+        RuleName::AllElim => Ok(opening(alloc, data)?),
+        RuleName::Linear => Ok(Some(combination(alloc, data)?)),
+        plain => Ok(plain_rule(plain, data)),
     }
 }
 
@@ -149,37 +160,10 @@ fn combination(alloc: Global, data: &[Value]) -> Result<Rule, AllocError> {
     }
 }
 
-fn plain_rule(name: &str, data: &[Value]) -> Option<Rule> {
-    match named_rule(name) {
+fn plain_rule(name: RuleName, data: &[Value]) -> Option<Rule> {
+    match name.plain() {
         Some(rule) if data.is_empty() => Some(rule),
         Some(_) => Some(no_instance()),
         None => None,
-    }
-}
-
-/// The rules without data.
-fn named_rule(name: &str) -> Option<Rule> {
-    match name {
-        "true-intro" => Some(Rule::TrueIntro),
-        "false-elim" => Some(Rule::FalseElim),
-        "and-intro" => Some(Rule::AndIntro),
-        "and-left" => Some(Rule::AndLeft),
-        "and-right" => Some(Rule::AndRight),
-        "or-left" => Some(Rule::OrLeft),
-        "or-right" => Some(Rule::OrRight),
-        "or-elim" => Some(Rule::OrElim),
-        "implies-intro" => Some(Rule::ImpliesIntro),
-        "implies-elim" => Some(Rule::ImpliesElim),
-        "not-intro" => Some(Rule::NotIntro),
-        "not-elim" => Some(Rule::NotElim),
-        "classical" => Some(Rule::Classical),
-        "lab-intro" => Some(Rule::LabIntro),
-        "lab-elim" => Some(Rule::LabElim),
-        "eq-le" => Some(Rule::EqLe),
-        "le-total" => Some(Rule::LeTotal),
-        "eq-split" => Some(Rule::EqSplit),
-        "read-put" => Some(Rule::ReadPut),
-        "read-same" => Some(Rule::ReadSame),
-        _ => None,
     }
 }

@@ -2,8 +2,8 @@
 ghost use Rattle.std.specs.Prelude.{◌<◌, IfOk, IfSome};
 ghost use Rattle.ac_tree.specs.Numbering.{program_nodes};
 
-use crate::ask::{Answer, text_at};
 use crate::spans::spans_of;
+use ac_asks::{Answer, text_at};
 use ac_parse::ParseFault;
 use ac_tree::{Position, Program, Span};
 use serde_json::{Value, json};
