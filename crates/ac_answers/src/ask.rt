@@ -41,6 +41,7 @@ fn answer_of(alloc: Global, ask: &Value) -> Answer {
         "run" => runs::run(alloc, ask),
         "cuts" => flow::cuts(alloc, ask),
         "pairs" => flow::pairs(alloc, ask),
+        "walk" => flow::walk(alloc, ask),
         _ => Ok(None),
     }
 }

@@ -36,6 +36,53 @@ pub fn pairs(alloc: Global, ask: &Value) -> Answer {
     Ok(Some(json!(in alloc; {"pairs": list})?))
 }
 
+/// The walk of a pair, with the cuts of the places.
+pub fn walk(alloc: Global, ask: &Value) -> Answer {
+    let (Some((program, cuts)), Some(pair)) = (program_and_cuts(alloc, ask)?, pair_at(ask)) else {
+        return Ok(None);
+    };
+    let nodes = ac_walk::walk(alloc, &program, cuts.as_slice(), &pair)?;
+    let mut list = Vec::new(alloc);
+    for node in nodes.iter() {
+        let number = node.0;
+        list.push(json!(in alloc; number)?)?;
+    }
+    Ok(Some(json!(in alloc; {"walk": list})?))
+}
+
+/// The pair of an ask.
+fn pair_at(ask: &Value) -> Option<Pair> {
+    match list_at(ask, "pair")? {
+        [cut, target] => Some(Pair {
+            cut: cut_of(cut)?,
+            target: target_of(target)?,
+        }),
+        _ => None,
+    }
+}
+
+fn cut_of(value: &Value) -> Option<Cut> {
+    let (word, node) = word_and_node(value)?;
+    match word {
+        "start" => Some(Cut::Start),
+        "head" => Some(Cut::Head(node)),
+        "exit" => Some(Cut::Exit(node)),
+        "after" => Some(Cut::After(node)),
+        _ => None,
+    }
+}
+
+fn target_of(value: &Value) -> Option<Target> {
+    let (word, node) = word_and_node(value)?;
+    match word {
+        "entry" => Some(Target::Entry(node)),
+        "keep" => Some(Target::Keep(node)),
+        "barrier" => Some(Target::Barrier(node)),
+        "site" => Some(Target::Site(node)),
+        _ => None,
+    }
+}
+
 /// The program of an ask, and its cuts for the places there.
 fn program_and_cuts(alloc: Global, ask: &Value) -> anyhow::Result<Option<(Program, Vec<Cut>)>> {
     let (Some(text), Some(places)) = (text_at(ask, "program"), list_at(ask, "places")) else {
