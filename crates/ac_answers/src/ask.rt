@@ -1,6 +1,7 @@
 //! What a line asks for.
 use ac_answers_language::{flow, programs, runs};
 use ac_answers_logic::{differences, formulas, linear, proof_trees};
+use ac_answers_policies::policies;
 use ac_asks::{Answer, text_at};
 use serde_json::{Value, json};
 use std::alloc::{AllocError, Global};
@@ -42,6 +43,10 @@ fn answer_of(alloc: Global, ask: &Value) -> Answer {
         "cuts" => flow::cuts(alloc, ask),
         "pairs" => flow::pairs(alloc, ask),
         "walk" => flow::walk(alloc, ask),
+        "sites" => policies::sites(alloc, ask),
+        "need" => policies::need(alloc, ask),
+        "effect" => policies::effect(alloc, ask),
+        "known" => policies::known(alloc, ask),
         _ => Ok(None),
     }
 }

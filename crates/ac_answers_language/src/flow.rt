@@ -134,7 +134,8 @@ fn word_and_node(value: &Value) -> Option<(&str, NodeId)> {
     }
 }
 
-fn node_of(value: &Value) -> Option<NodeId> {
+/// The node that a number names.
+pub fn node_of(value: &Value) -> Option<NodeId> {
     let number = value.as_u64()?;
     match u32::try_from(number) {
         Ok(number) => Some(NodeId(number)),
