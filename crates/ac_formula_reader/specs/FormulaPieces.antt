@@ -9,7 +9,7 @@ use Rattle.ac_formula_printer.specs.declared.mark.FormulaMark.{FormulaMark}
 use Rattle.ac_formula_printer.specs.declared.byte_run.Run.{Run}
 use Rattle.ac_formula_printer.specs.declared.byte_run.Run.TheVariants as run
 use Rattle.ac_formula_reader.specs.declared.tokens.Piece.{Piece}
-use Rattle.ac_formula_reader.specs.declared.machine_state.State.{State}
+use Rattle.ac_formula_machine.specs.declared.machine_state.State.{State}
 use Rattle.ac_formula_reader.specs.declared.read.Advance.{Advance}
 use Rattle.ac_formula_reader.specs.declared.read.Reached.{Reached}
 use Rattle.ac_formula_reader.specs.declared.read.Reached.TheVariants.{Stuck, Through}
@@ -17,7 +17,7 @@ use Rattle.ac_formula_reader.specs.declared.read.FormulaFault.{FormulaFault}
 use Rattle.ac_formula_reader.specs.declared.read.FormulaFault.TheVariants.{At, OutOfMemory}
 use Rattle.ac_formula_printer.specs.FormulaText.{Tokens, Goal, Tree}
 use Rattle.ac_formula_printer.specs.FormulaTokens.{front, behind, first_token, IsText, IsRefusedAt}
-use Rattle.ac_formula_reader.specs.FormulaMachine.{Stack, stepped}
+use Rattle.ac_formula_machine.specs.FormulaMachine.{Stack, stepped}
 use Rattle.ac_formula_reader.specs.FormulaReached.{IsReached}
 
 -- a run takes this many bytes

@@ -1,5 +1,5 @@
 use Rattle.std.proofs.Common.{◌≡◌, ◌<◌, ◌≤◌, length, sym, subst, reverse, List, Option, Some, None, arith}
-use Rattle.ac_formula_reader.specs.declared.machine_state.Frame.{Frame}
+use Rattle.ac_formula_machine.specs.declared.machine_state.Frame.{Frame}
 use Rattle.ac_formula_reader.proofs.Running.{Runs, run_begins, advances_at, run_goes_on, run_inside, run_stuck}
 use Rattle.ac_formula_reader.proofs.read.run.Goals as goal
 

@@ -1,5 +1,5 @@
 use Rattle.std.proofs.Common.{◌≡◌, ap, subst, reverse, Some, None}
-use Rattle.ac_formula_reader.specs.declared.machine_state.State.TheVariants as state
+use Rattle.ac_formula_machine.specs.declared.machine_state.State.TheVariants as state
 use Rattle.ac_formula_reader.specs.declared.read.Reached.{Reached}
 use Rattle.ac_formula_printer.specs.FormulaText.{Terms}
 use Rattle.ac_formula_reader.specs.FormulaPieces.{HasRun}
