@@ -1,5 +1,5 @@
 //! What a connective or a closing brace behind a conjunction makes of the stack.
-ghost use Rattle.std.specs.Prelude.{◌≡◌, IfOk, reverse, List, ◌∷◌, Some};
+ghost use Rattle.std.specs.Prelude.{◌≡◌, IfOk, List, ◌∷◌, Some};
 ghost use Rattle.ac_formula_machine.specs.declared.machine_state.Frame.{Frame as ReadFrame};
 ghost use Rattle.ac_formula_machine.specs.declared.machine_state.State.TheVariants as state_variant;
 ghost use Rattle.ac_formula_machine.specs.declared.token_roles.Connective.TheVariants as link_variant;
@@ -9,22 +9,23 @@ ghost use Rattle.ac_formula_machine.specs.FormulaMachine.{StepGives, closed, con
 use crate::building::{conjoined, either, factored, fresh, implication, unbound};
 use crate::machine_state::{Before, Frame, Pending, State};
 use crate::refusal::{give_up, refuse};
+use crate::stack::Stack;
 use crate::token_roles::Connective;
 use ac_logic::{Formula, Label, Term};
 use ac_shared::Shared;
 use std::alloc::{AllocError, Global};
 
 /// A frame is opened, and a factor is due in it.
-pub(crate) fn factor_in(stack: &mut Vec<Frame>, frame: Frame) -> Result<Option<State>, AllocError>
-    ensures { IfOk result (λ next. StepGives (reverse stack.new.items) next (Some (frame ∷ reverse stack.old.items, state_variant.Factor fresh_pending))) }
+pub(crate) fn factor_in(stack: &mut Stack, frame: Frame) -> Result<Option<State>, AllocError>
+    ensures { IfOk result (λ next. StepGives stack.new next (Some (frame ∷ stack.old, state_variant.Factor fresh_pending))) }
 {
     stack.push(frame)?;
     Ok(Some(State::Factor(fresh())))
 }
 
 /// A frame is opened, and a part is due in it.
-pub fn part_in(stack: &mut Vec<Frame>, frame: Frame) -> Result<Option<State>, AllocError>
-    ensures { IfOk result (λ next. StepGives (reverse stack.new.items) next (Some (frame ∷ reverse stack.old.items, state_variant.Part unbound_before))) }
+pub fn part_in(stack: &mut Stack, frame: Frame) -> Result<Option<State>, AllocError>
+    ensures { IfOk result (λ next. StepGives stack.new next (Some (frame ∷ stack.old, state_variant.Part unbound_before))) }
 {
     stack.push(frame)?;
     Ok(Some(State::Part(unbound())))
@@ -84,12 +85,8 @@ fn label_step(
 }
 
 /// A brace that closes.
-fn close(
-    alloc: Global,
-    stack: &mut Vec<Frame>,
-    formula: Formula,
-) -> Result<Option<State>, AllocError>
-    ensures { IfOk result (λ next. StepGives (reverse stack.new.items) next (closed (reverse stack.old.items) formula)) }
+fn close(alloc: Global, stack: &mut Stack, formula: Formula) -> Result<Option<State>, AllocError>
+    ensures { IfOk result (λ next. StepGives stack.new next (closed stack.old formula)) }
 {
     let mut whole = formula;
     while let Some(frame) = stack.pop() {
@@ -124,11 +121,11 @@ fn or_step(
 
 fn implies_step(
     alloc: Global,
-    stack: &mut Vec<Frame>,
+    stack: &mut Stack,
     or: Option<Formula>,
     formula: Formula,
 ) -> Result<Option<State>, AllocError>
-    ensures { IfOk result (λ next. StepGives (reverse stack.new.items) next (connected (reverse stack.old.items) or formula link_variant.Implies)) }
+    ensures { IfOk result (λ next. StepGives stack.new next (connected stack.old or formula link_variant.Implies)) }
 {
     let whole = either(alloc, or, formula)?;
     part_in(stack, Frame::Antecedent(whole))
@@ -136,11 +133,11 @@ fn implies_step(
 
 fn close_step(
     alloc: Global,
-    stack: &mut Vec<Frame>,
+    stack: &mut Stack,
     or: Option<Formula>,
     formula: Formula,
 ) -> Result<Option<State>, AllocError>
-    ensures { IfOk result (λ next. StepGives (reverse stack.new.items) next (connected (reverse stack.old.items) or formula link_variant.Close)) }
+    ensures { IfOk result (λ next. StepGives stack.new next (connected stack.old or formula link_variant.Close)) }
 {
     let whole = either(alloc, or, formula)?;
     close(alloc, stack, whole)
@@ -149,12 +146,12 @@ fn close_step(
 /// A connective behind a conjunction.
 pub fn follow(
     alloc: Global,
-    stack: &mut Vec<Frame>,
+    stack: &mut Stack,
     or: Option<Formula>,
     formula: Formula,
     connective: Connective,
 ) -> Result<Option<State>, AllocError>
-    ensures { IfOk result (λ next. StepGives (reverse stack.new.items) next (connected (reverse stack.old.items) or formula connective)) }
+    ensures { IfOk result (λ next. StepGives stack.new next (connected stack.old or formula connective)) }
 {
     match connective {
         Connective::And => Ok(Some(State::Part(Before {

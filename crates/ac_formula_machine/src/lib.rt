@@ -9,6 +9,7 @@ mod machine_state;
 mod numbers;
 mod operand;
 mod refusal;
+mod stack;
 mod term_end;
 mod token_roles;
 
@@ -20,6 +21,7 @@ pub use machine_state::{Adding, Before, Frame, Pending, Slot, State};
 pub use numbers::short_in;
 pub use operand::{begin_array, step_array, step_factor, step_fresh};
 pub use refusal::{give_up, refuse};
+pub use stack::Stack;
 pub use term_end::step_product;
 pub use token_roles::{
     Connective, PartStart, bound_in, connective_in, is_close_paren, is_open_brace, is_open_paren,

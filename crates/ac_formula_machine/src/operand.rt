@@ -1,8 +1,7 @@
 //! A token where a factor or an array is due, and one behind an array.
-ghost use Rattle.std.specs.Prelude.{◌≡◌, IfOk, reverse, List, ◌∷◌, Some, None, if◌then◌else◌};
+ghost use Rattle.std.specs.Prelude.{◌≡◌, IfOk, List, ◌∷◌, Some, None, if◌then◌else◌};
 ghost use Rattle.ac_formula_machine.specs.declared.machine_state.Frame.{Frame as ReadFrame};
 ghost use Rattle.ac_logic.specs.Patterns.{Array};
-ghost use Rattle.ac_formula_printer.specs.FormulaText.{place_of, one_further};
 ghost use Rattle.ac_formula_machine.specs.FormulaMachine.{names_of, StepGives, array_begins, named_begins, word_begins, number_begins, place_in, wanting, bound_read, at_minus, fresh_read, put_begins, symbol_ends, array_named, array_read, number_read as number_state};
 
 use crate::building::{factored, multiplied};
@@ -10,6 +9,7 @@ use crate::connectives::{atom_step, factor_in};
 use crate::machine_state::{Frame, Pending, Slot, State};
 use crate::numbers::{number_in, short_in};
 use crate::refusal::{give_up, refuse};
+use crate::stack::Stack;
 use crate::term_end::step_product;
 use crate::token_roles::{
     ArrayWord, FactorStart, array_word, factor_start, is_comma, is_open_bracket, name_in,
@@ -51,42 +51,6 @@ pub fn begin_array(slot: Slot, mark: &FormulaMark) -> Result<Option<State>, Allo
     }
 }
 
-/// The place of a name when one more frame stands on top.
-fn place_within(place: Option<u32>, frame: &Frame, name: &Name) -> Result<Option<u32>, AllocError>
-    ensures { IfOk result (λ next. (k : List ReadFrame) → place ≡ place_of name.now (names_of k) → next ≡ place_of name.now (names_of (frame.now ∷ k))) }
-{
-    match frame {
-        Frame::All(_, bound) => {
-            if name.is(bound) {
-                Ok(Some(0))
-            } else {
-                further(place)
-            }
-        }
-        _ => Ok(place),
-    }
-}
-
-/// The place of the innermost `all` with a name, from the innermost as 0.
-fn find_bound(stack: &[Frame], name: &Name) -> Result<Option<u32>, AllocError>
-    ensures { IfOk result (λ place. place ≡ place_of name.now (names_of (reverse stack.now))) }
-{
-    let mut place = None;
-    for frame in stack {
-        place = place_within(place, frame, name)?;
-    }
-    Ok(place)
-}
-
-fn further(place: Option<u32>) -> Result<Option<u32>, AllocError>
-    ensures { IfOk result (λ next. next ≡ one_further place) }
-{
-    match place {
-        None => Ok(None),
-        Some(place) => Ok(Some(place.checked_add(1).ok_or(AllocError)?)),
-    }
-}
-
 /// The state when a number has come, with its sign.
 fn number_read(alloc: Global, pending: Pending, number: i64) -> Result<Option<State>, AllocError>
     ensures { IfOk result (λ next. next ≡ Some (number_state pending number)) }
@@ -112,22 +76,22 @@ fn number_step(
 }
 
 /// The place of the bound name that a token is, if it stands in an `all` of that name.
-fn bound_place(stack: &[Frame], mark: &FormulaMark) -> Result<Option<u32>, AllocError>
-    ensures { IfOk result (λ place. place ≡ place_in (names_of (reverse stack.now)) mark.now) }
+fn bound_place(stack: &Stack, mark: &FormulaMark) -> Result<Option<u32>, AllocError>
+    ensures { IfOk result (λ place. place ≡ place_in (names_of stack.now) mark.now) }
 {
     match mark {
-        FormulaMark::Bound(name) => find_bound(stack, name),
+        FormulaMark::Bound(name) => stack.place_of(name),
         _ => Ok(None),
     }
 }
 
 fn bound_step(
     alloc: Global,
-    stack: &[Frame],
+    stack: &Stack,
     pending: Pending,
     mark: &FormulaMark,
 ) -> Result<Option<State>, AllocError>
-    ensures { IfOk result (λ next. StepGives (reverse stack.now) next (bound_read (reverse stack.now) pending mark.now)) }
+    ensures { IfOk result (λ next. StepGives stack.now next (bound_read stack.now pending mark.now)) }
 {
     match bound_place(stack, mark) {
         Ok(None) => refuse(pending),
@@ -153,15 +117,15 @@ fn negative_step(before: Pending) -> Option<State>
 /// A token where a factor is due.
 pub fn step_factor(
     alloc: Global,
-    stack: &mut Vec<Frame>,
+    stack: &mut Stack,
     pending: Pending,
     mark: &FormulaMark,
 ) -> Result<Option<State>, AllocError>
-    ensures { IfOk result (λ next. StepGives (reverse stack.new.items) next (wanting (reverse stack.old.items) pending mark.now)) }
+    ensures { IfOk result (λ next. StepGives stack.new next (wanting stack.old pending mark.now)) }
 {
     match factor_start(mark) {
         FactorStart::Literal => number_step(alloc, pending, mark),
-        FactorStart::Bound => bound_step(alloc, stack.as_slice(), pending, mark),
+        FactorStart::Bound => bound_step(alloc, stack, pending, mark),
         FactorStart::Hash => Ok(Some(State::Fresh(pending))),
         FactorStart::Minus => Ok(negative_step(pending)),
         FactorStart::Paren => factor_in(stack, Frame::Paren(pending)),
@@ -185,11 +149,11 @@ pub fn step_fresh(
 
 /// The array of the `put` that this frame may be is read.
 fn put_behind(
-    stack: &mut Vec<Frame>,
+    stack: &mut Stack,
     frame: Frame,
     array: ArrayTerm,
 ) -> Result<Option<State>, AllocError>
-    ensures { IfOk result (λ next. StepGives (reverse stack.new.items) next (put_begins (frame ∷ reverse stack.old.items) array)) }
+    ensures { IfOk result (λ next. StepGives stack.new next (put_begins (frame ∷ stack.old) array)) }
 {
     match frame {
         Frame::Put(slot) => factor_in(stack, Frame::PutFirst(slot, array)),
@@ -198,8 +162,8 @@ fn put_behind(
 }
 
 /// The array of a `put` is read.
-fn put_array(stack: &mut Vec<Frame>, array: ArrayTerm) -> Result<Option<State>, AllocError>
-    ensures { IfOk result (λ next. StepGives (reverse stack.new.items) next (put_begins (reverse stack.old.items) array)) }
+fn put_array(stack: &mut Stack, array: ArrayTerm) -> Result<Option<State>, AllocError>
+    ensures { IfOk result (λ next. StepGives stack.new next (put_begins stack.old array)) }
 {
     match stack.pop() {
         Some(frame) => put_behind(stack, frame, array),
@@ -208,11 +172,11 @@ fn put_array(stack: &mut Vec<Frame>, array: ArrayTerm) -> Result<Option<State>, 
 }
 
 fn end_put_array(
-    stack: &mut Vec<Frame>,
+    stack: &mut Stack,
     array: ArrayTerm,
     goes_on: bool,
 ) -> Result<Option<State>, AllocError>
-    ensures { IfOk result (λ next. StepGives (reverse stack.new.items) next (if goes_on then put_begins (reverse stack.old.items) array else None)) }
+    ensures { IfOk result (λ next. StepGives stack.new next (if goes_on then put_begins stack.old array else None)) }
 {
     if goes_on {
         put_array(stack, array)
@@ -223,12 +187,12 @@ fn end_put_array(
 
 fn symbol_step(
     alloc: Global,
-    stack: &mut Vec<Frame>,
+    stack: &mut Stack,
     pending: Pending,
     sym: Sym,
     mark: &FormulaMark,
 ) -> Result<Option<State>, AllocError>
-    ensures { IfOk result (λ next. StepGives (reverse stack.new.items) next (symbol_ends (reverse stack.old.items) pending (Array sym) mark.now)) }
+    ensures { IfOk result (λ next. StepGives stack.new next (symbol_ends stack.old pending (Array sym) mark.now)) }
 {
     let Pending {
         sum,
@@ -244,12 +208,12 @@ fn symbol_step(
 /// A token behind an array that may be a symbol alone.
 fn end_symbol(
     alloc: Global,
-    stack: &mut Vec<Frame>,
+    stack: &mut Stack,
     pending: Pending,
     array: ArrayTerm,
     mark: &FormulaMark,
 ) -> Result<Option<State>, AllocError>
-    ensures { IfOk result (λ next. StepGives (reverse stack.new.items) next (symbol_ends (reverse stack.old.items) pending array mark.now)) }
+    ensures { IfOk result (λ next. StepGives stack.new next (symbol_ends stack.old pending array mark.now)) }
 {
     match array {
         ArrayTerm::Sym(sym) => symbol_step(alloc, stack, pending, sym, mark),
@@ -259,12 +223,12 @@ fn end_symbol(
 
 fn atom_array(
     alloc: Global,
-    stack: &mut Vec<Frame>,
+    stack: &mut Stack,
     pending: Pending,
     array: ArrayTerm,
     mark: &FormulaMark,
 ) -> Result<Option<State>, AllocError>
-    ensures { IfOk result (λ next. StepGives (reverse stack.new.items) next (array_named (reverse stack.old.items) pending array mark.now)) }
+    ensures { IfOk result (λ next. StepGives stack.new next (array_named stack.old pending array mark.now)) }
 {
     if is_open_bracket(mark) {
         factor_in(stack, Frame::First(pending, array))
@@ -276,12 +240,12 @@ fn atom_array(
 /// A token behind an array.
 pub fn step_array(
     alloc: Global,
-    stack: &mut Vec<Frame>,
+    stack: &mut Stack,
     slot: Slot,
     array: ArrayTerm,
     mark: &FormulaMark,
 ) -> Result<Option<State>, AllocError>
-    ensures { IfOk result (λ next. StepGives (reverse stack.new.items) next (array_read (reverse stack.old.items) slot array mark.now)) }
+    ensures { IfOk result (λ next. StepGives stack.new next (array_read stack.old slot array mark.now)) }
 {
     match slot {
         Slot::Put => end_put_array(stack, array, is_comma(mark)),

@@ -1,5 +1,5 @@
 //! A token behind a term or a product.
-ghost use Rattle.std.specs.Prelude.{◌≡◌, IfOk, reverse, List, ◌∷◌, Some, None, false, if◌then◌else◌};
+ghost use Rattle.std.specs.Prelude.{◌≡◌, IfOk, List, ◌∷◌, Some, None, false, if◌then◌else◌};
 ghost use Rattle.ac_formula_machine.specs.declared.machine_state.Adding.TheVariants as adding_variant;
 ghost use Rattle.ac_formula_machine.specs.declared.machine_state.Frame.{Frame as ReadFrame};
 ghost use Rattle.ac_formula_machine.specs.declared.machine_state.State.TheVariants as state_variant;
@@ -12,6 +12,7 @@ use crate::building::{Cell, Relation, added, conjoined, put, read, related};
 use crate::connectives::{atom_step, factor_in, follow};
 use crate::machine_state::{Adding, Before, Frame, Pending, Slot, State};
 use crate::refusal::{give_up, refuse};
+use crate::stack::Stack;
 use crate::token_roles::{
     IndexEnd, ProductSign, connective_in, index_end, is_close_bracket, is_close_paren, is_comma,
     product_sign, relation_in,
@@ -44,13 +45,13 @@ fn vector_step(
 /// What is behind the first index.
 fn end_index(
     alloc: Global,
-    stack: &mut Vec<Frame>,
+    stack: &mut Stack,
     pending: Pending,
     array: ArrayTerm,
     index: Term,
     mark: &FormulaMark,
 ) -> Result<Option<State>, AllocError>
-    ensures { IfOk result (λ next. StepGives (reverse stack.new.items) next (in_index (reverse stack.old.items) pending array index mark.now)) }
+    ensures { IfOk result (λ next. StepGives stack.new next (in_index stack.old pending array index mark.now)) }
 {
     match index_end(mark) {
         IndexEnd::Bracket => vector_step(alloc, pending, array, index),
@@ -116,11 +117,11 @@ fn end_put_value(
 
 /// The next part of a `put`, behind a comma.
 fn next_part(
-    stack: &mut Vec<Frame>,
+    stack: &mut Stack,
     frame: Frame,
     mark: &FormulaMark,
 ) -> Result<Option<State>, AllocError>
-    ensures { IfOk result (λ next. StepGives (reverse stack.new.items) next (at_comma (frame ∷ reverse stack.old.items, state_variant.Factor fresh_pending) mark.now)) }
+    ensures { IfOk result (λ next. StepGives stack.new next (at_comma (frame ∷ stack.old, state_variant.Factor fresh_pending) mark.now)) }
 {
     if is_comma(mark) {
         factor_in(stack, frame)
@@ -130,12 +131,12 @@ fn next_part(
 }
 
 fn end_left(
-    stack: &mut Vec<Frame>,
+    stack: &mut Stack,
     before: Before,
     left: Term,
     mark: &FormulaMark,
 ) -> Result<Option<State>, AllocError>
-    ensures { IfOk result (λ next. StepGives (reverse stack.new.items) next (at_relation (reverse stack.old.items) before left mark.now)) }
+    ensures { IfOk result (λ next. StepGives stack.new next (at_relation stack.old before left mark.now)) }
 {
     match relation_in(mark) {
         None => refuse((before, left)),
@@ -145,12 +146,12 @@ fn end_left(
 
 fn end_right(
     alloc: Global,
-    stack: &mut Vec<Frame>,
+    stack: &mut Stack,
     before: Before,
     part: Formula,
     mark: &FormulaMark,
 ) -> Result<Option<State>, AllocError>
-    ensures { IfOk result (λ next. StepGives (reverse stack.new.items) next (following (reverse stack.old.items) before.or (joined_formula before.and (denied_formula before.nots part)) mark.now)) }
+    ensures { IfOk result (λ next. StepGives stack.new next (following stack.old before.or (joined_formula before.and (denied_formula before.nots part)) mark.now)) }
 {
     let Before { or, and, nots } = before;
     match conjoined(alloc, and, nots, part) {
@@ -161,12 +162,12 @@ fn end_right(
 
 fn end_relation(
     alloc: Global,
-    stack: &mut Vec<Frame>,
+    stack: &mut Stack,
     before: Before,
     relation: Relation,
     mark: &FormulaMark,
 ) -> Result<Option<State>, AllocError>
-    ensures { IfOk result (λ next. StepGives (reverse stack.new.items) next (following (reverse stack.old.items) before.or (joined_formula before.and (denied_formula before.nots (related_formula relation.sign relation.left relation.right))) mark.now)) }
+    ensures { IfOk result (λ next. StepGives stack.new next (following stack.old before.or (joined_formula before.and (denied_formula before.nots (related_formula relation.sign relation.left relation.right))) mark.now)) }
 {
     match related(alloc, relation) {
         Ok(part) => end_right(alloc, stack, before, part, mark),
@@ -177,12 +178,12 @@ fn end_relation(
 /// A token behind a term on this frame.
 fn end_frame(
     alloc: Global,
-    stack: &mut Vec<Frame>,
+    stack: &mut Stack,
     frame: Frame,
     term: Term,
     mark: &FormulaMark,
 ) -> Result<Option<State>, AllocError>
-    ensures { IfOk result (λ next. StepGives (reverse stack.new.items) next (term_ends (frame ∷ reverse stack.old.items) term mark.now)) }
+    ensures { IfOk result (λ next. StepGives stack.new next (term_ends (frame ∷ stack.old) term mark.now)) }
 {
     match frame {
         Frame::Paren(pending) => end_paren(alloc, pending, term, mark),
@@ -216,11 +217,11 @@ fn end_frame(
 /// A token behind a whole term.
 fn end_term(
     alloc: Global,
-    stack: &mut Vec<Frame>,
+    stack: &mut Stack,
     term: Term,
     mark: &FormulaMark,
 ) -> Result<Option<State>, AllocError>
-    ensures { IfOk result (λ next. StepGives (reverse stack.new.items) next (term_ends (reverse stack.old.items) term mark.now)) }
+    ensures { IfOk result (λ next. StepGives stack.new next (term_ends stack.old term mark.now)) }
 {
     match stack.pop() {
         None => refuse(term),
@@ -252,12 +253,12 @@ fn minus_step(alloc: Global, sum: Adding, product: Term) -> Result<Option<State>
 
 fn end_product(
     alloc: Global,
-    stack: &mut Vec<Frame>,
+    stack: &mut Stack,
     sum: Adding,
     product: Term,
     mark: &FormulaMark,
 ) -> Result<Option<State>, AllocError>
-    ensures { IfOk result (λ next. StepGives (reverse stack.new.items) next (term_ends (reverse stack.old.items) (added_term sum product) mark.now)) }
+    ensures { IfOk result (λ next. StepGives stack.new next (term_ends stack.old (added_term sum product) mark.now)) }
 {
     let whole = added(alloc, sum, product)?;
     end_term(alloc, stack, whole, mark)
@@ -266,12 +267,12 @@ fn end_product(
 /// A token behind a product.
 pub fn step_product(
     alloc: Global,
-    stack: &mut Vec<Frame>,
+    stack: &mut Stack,
     sum: Adding,
     product: Term,
     mark: &FormulaMark,
 ) -> Result<Option<State>, AllocError>
-    ensures { IfOk result (λ next. StepGives (reverse stack.new.items) next (having (reverse stack.old.items) sum product mark.now)) }
+    ensures { IfOk result (λ next. StepGives stack.new next (having stack.old sum product mark.now)) }
 {
     match product_sign(mark) {
         ProductSign::Plus => plus_step(alloc, sum, product),

@@ -1,6 +1,6 @@
 -- What the functions that cut and read formula text give.
 -- No promise rests on this file: it says what the code keeps on the way.
-use Rattle.std.specs.Prelude.{◌≡◌, ℕ, ◌+◌, ◌≤◌, ◌<◌, List, [], ◌∷◌, ◌++◌, length, take, drop, reverse, Option, Some, None, Result, Ok, Err, ◌⊎◌}
+use Rattle.std.specs.Prelude.{◌≡◌, ℕ, ◌+◌, ◌≤◌, ◌<◌, List, [], ◌∷◌, ◌++◌, length, take, drop, Option, Some, None, Result, Ok, Err, ◌⊎◌}
 use Rattle.ac_tree.specs.declared.token.Sign.{Sign}
 use Rattle.ac_tree.specs.declared.token.ByteKind.{ByteKind}
 use Rattle.ac_tree.specs.declared.token.ByteKind.TheVariants as byte_kind
@@ -53,7 +53,7 @@ Advances k s bytes j (Some a) =
 
 abbrev pub HasRun : Goal → List ℕ → Reached → Type 0
 HasRun g bytes (Stuck place) = IsRefusedAt g bytes place
-HasRun g bytes (Through stack state) = IsReached g bytes (reverse stack.items) state []
+HasRun g bytes (Through stack state) = IsReached g bytes stack state []
 
 abbrev pub IsRead : (g : Goal) → List ℕ → Result (Tree g) ℕ → Type 0
 IsRead g bytes (Ok t) = IsText g t bytes

@@ -1,10 +1,10 @@
 //! The term, or the formula, that is read where a text ends.
-ghost use Rattle.std.specs.Prelude.{◌≡◌, ◌∷◌, reverse, IfOk, Some};
+ghost use Rattle.std.specs.Prelude.{◌≡◌, ◌∷◌, IfOk, Some};
 ghost use Rattle.ac_formula_machine.specs.FormulaMachine.{ended_term as term_ended, ended_formula as formula_ended, atom_so_far, symbol_so_far, array_so_far, term_so_far, relation_ended, implied as implied_formula, either as either_formula, joined as joined_formula, denied as denied_formula};
 
 use ac_formula_machine::{
-    Before, Frame, Pending, Relation, Slot, State, added, conjoined, either, factored, give_up,
-    implication, refuse, related,
+    Before, Frame, Pending, Relation, Slot, Stack, State, added, conjoined, either, factored,
+    give_up, implication, refuse, related,
 };
 use ac_logic::{ArrayTerm, Formula, Term};
 use std::alloc::{AllocError, Global};
@@ -60,24 +60,21 @@ fn whole_term(alloc: Global, state: State) -> Result<Option<Term>, AllocError>
 /// The term, if nothing is open around it.
 pub(crate) fn end_term(
     alloc: Global,
-    stack: Vec<Frame>,
+    stack: Stack,
     state: State,
 ) -> Result<Option<Term>, AllocError>
-    ensures { IfOk result (λ term. term ≡ term_ended (reverse stack.items) state) }
+    ensures { IfOk result (λ term. term ≡ term_ended stack state) }
 {
-    match stack.as_slice() {
-        [] => whole_term(alloc, state),
-        _ => refuse(state),
+    let mut stack = stack;
+    match stack.pop() {
+        None => whole_term(alloc, state),
+        Some(frame) => refuse((frame, state)),
     }
 }
 
 /// The formula behind all antecedents that are still open.
-fn implied(
-    alloc: Global,
-    stack: Vec<Frame>,
-    formula: Formula,
-) -> Result<Option<Formula>, AllocError>
-    ensures { IfOk result (λ whole. whole ≡ implied_formula (reverse stack.items) formula) }
+fn implied(alloc: Global, stack: Stack, formula: Formula) -> Result<Option<Formula>, AllocError>
+    ensures { IfOk result (λ whole. whole ≡ implied_formula stack formula) }
 {
     let mut stack = stack;
     let mut whole = formula;
@@ -93,11 +90,11 @@ fn implied(
 /// The formula that ends with a part, with all that stands before it.
 fn end_part(
     alloc: Global,
-    stack: Vec<Frame>,
+    stack: Stack,
     before: Before,
     part: Formula,
 ) -> Result<Option<Formula>, AllocError>
-    ensures { IfOk result (λ whole. whole ≡ implied_formula (reverse stack.items) (either_formula before.or (joined_formula before.and (denied_formula before.nots part)))) }
+    ensures { IfOk result (λ whole. whole ≡ implied_formula stack (either_formula before.or (joined_formula before.and (denied_formula before.nots part)))) }
 {
     let Before { or, and, nots } = before;
     match conjoined(alloc, and, nots, part) {
@@ -112,11 +109,11 @@ fn end_part(
 /// The formula that ends with a term on this frame, if it may end here.
 fn end_frame(
     alloc: Global,
-    stack: Vec<Frame>,
+    stack: Stack,
     frame: Frame,
     right: Term,
 ) -> Result<Option<Formula>, AllocError>
-    ensures { IfOk result (λ whole. whole ≡ relation_ended (frame ∷ reverse stack.items) (Some right)) }
+    ensures { IfOk result (λ whole. whole ≡ relation_ended (frame ∷ stack) (Some right)) }
 {
     match frame {
         Frame::Right(before, left, sign) => {
@@ -130,12 +127,8 @@ fn end_frame(
 }
 
 /// The formula with a relation on top, if it may end here.
-fn end_relation(
-    alloc: Global,
-    stack: Vec<Frame>,
-    right: Term,
-) -> Result<Option<Formula>, AllocError>
-    ensures { IfOk result (λ whole. whole ≡ relation_ended (reverse stack.items) (Some right)) }
+fn end_relation(alloc: Global, stack: Stack, right: Term) -> Result<Option<Formula>, AllocError>
+    ensures { IfOk result (λ whole. whole ≡ relation_ended stack (Some right)) }
 {
     let mut stack = stack;
     match stack.pop() {
@@ -145,8 +138,8 @@ fn end_relation(
 }
 
 /// The formula that ends with a term, if it may end here.
-fn end_side(alloc: Global, stack: Vec<Frame>, state: State) -> Result<Option<Formula>, AllocError>
-    ensures { IfOk result (λ whole. whole ≡ relation_ended (reverse stack.items) (term_so_far state)) }
+fn end_side(alloc: Global, stack: Stack, state: State) -> Result<Option<Formula>, AllocError>
+    ensures { IfOk result (λ whole. whole ≡ relation_ended stack (term_so_far state)) }
 {
     match whole_term(alloc, state)? {
         None => Ok(None),
@@ -157,10 +150,10 @@ fn end_side(alloc: Global, stack: Vec<Frame>, state: State) -> Result<Option<For
 /// The formula, if it may end here.
 pub(crate) fn end_formula(
     alloc: Global,
-    stack: Vec<Frame>,
+    stack: Stack,
     state: State,
 ) -> Result<Option<Formula>, AllocError>
-    ensures { IfOk result (λ whole. whole ≡ formula_ended (reverse stack.items) state) }
+    ensures { IfOk result (λ whole. whole ≡ formula_ended stack state) }
 {
     match state {
         State::Conj(or, formula) => {

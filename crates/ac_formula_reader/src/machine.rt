@@ -1,5 +1,5 @@
 //! Reading formula text token by token, with a stack of what stands around.
-ghost use Rattle.std.specs.Prelude.{◌≡◌, suc, IfOk, reverse, List, ◌∷◌, Some};
+ghost use Rattle.std.specs.Prelude.{◌≡◌, suc, IfOk, List, ◌∷◌, Some};
 ghost use Rattle.ac_logic.specs.declared.formula.Sym.TheVariants.{Init};
 ghost use Rattle.ac_formula_machine.specs.declared.machine_state.Frame.{Frame as ReadFrame};
 ghost use Rattle.ac_formula_machine.specs.declared.machine_state.Frame.TheVariants as frame_variant;
@@ -9,9 +9,9 @@ ghost use Rattle.ac_formula_printer.specs.FormulaText.{label_kind_of as kind_of_
 ghost use Rattle.ac_formula_machine.specs.FormulaMachine.{before as before_of, StepGives, stepped, wanting, part_begins, fresh as fresh_pending, unbound as unbound_before, kind_read, node_named, init_named, all_named, at_open_brace, at_open_paren, at_paren};
 
 use ac_formula_machine::{
-    Before, Frame, PartStart, Slot, State, begin_array, bound_in, connective_in, follow, fresh,
-    give_up, is_close_paren, is_open_brace, is_open_paren, name_in, part_in, part_start, part_step,
-    refuse, short_in, step_array, step_factor, step_fresh, step_product,
+    Before, Frame, PartStart, Slot, Stack, State, begin_array, bound_in, connective_in, follow,
+    fresh, give_up, is_close_paren, is_open_brace, is_open_paren, name_in, part_in, part_start,
+    part_step, refuse, short_in, step_array, step_factor, step_fresh, step_product,
 };
 use ac_formula_printer::FormulaMark;
 use ac_logic::{ArrayTerm, Formula, Label, LabelKind, Sym, Term};
@@ -30,11 +30,11 @@ fn not_step(before: Before) -> Result<Option<State>, AllocError>
 
 fn left_step(
     alloc: Global,
-    stack: &mut Vec<Frame>,
+    stack: &mut Stack,
     before: Before,
     mark: &FormulaMark,
 ) -> Result<Option<State>, AllocError>
-    ensures { IfOk result (λ next. StepGives (reverse stack.new.items) next (wanting (frame_variant.Left before ∷ reverse stack.old.items) fresh_pending mark.now)) }
+    ensures { IfOk result (λ next. StepGives stack.new next (wanting (frame_variant.Left before ∷ stack.old) fresh_pending mark.now)) }
 {
     stack.push(Frame::Left(before))?;
     step_factor(alloc, stack, fresh(), mark)
@@ -43,11 +43,11 @@ fn left_step(
 /// A token where a part is due.
 fn step_part(
     alloc: Global,
-    stack: &mut Vec<Frame>,
+    stack: &mut Stack,
     before: Before,
     mark: &FormulaMark,
 ) -> Result<Option<State>, AllocError>
-    ensures { IfOk result (λ next. StepGives (reverse stack.new.items) next (part_begins (reverse stack.old.items) before mark.now)) }
+    ensures { IfOk result (λ next. StepGives stack.new next (part_begins stack.old before mark.now)) }
 {
     match part_start(mark) {
         PartStart::True => part_step(alloc, before, Formula::True),
@@ -139,11 +139,11 @@ fn step_node(
 
 /// The brace behind what stands before a body.
 fn open_body(
-    stack: &mut Vec<Frame>,
+    stack: &mut Stack,
     frame: Frame,
     mark: &FormulaMark,
 ) -> Result<Option<State>, AllocError>
-    ensures { IfOk result (λ next. StepGives (reverse stack.new.items) next (at_open_brace (frame ∷ reverse stack.old.items, state_variant.Part unbound_before) mark.now)) }
+    ensures { IfOk result (λ next. StepGives stack.new next (at_open_brace (frame ∷ stack.old, state_variant.Part unbound_before) mark.now)) }
 {
     if is_open_brace(mark) {
         part_in(stack, frame)
@@ -153,12 +153,8 @@ fn open_body(
 }
 
 /// The parenthesis behind `put`.
-fn open_put(
-    stack: &mut Vec<Frame>,
-    slot: Slot,
-    mark: &FormulaMark,
-) -> Result<Option<State>, AllocError>
-    ensures { IfOk result (λ next. StepGives (reverse stack.new.items) next (at_open_paren (frame_variant.Put slot ∷ reverse stack.old.items, state_variant.ArrayDue) mark.now)) }
+fn open_put(stack: &mut Stack, slot: Slot, mark: &FormulaMark) -> Result<Option<State>, AllocError>
+    ensures { IfOk result (λ next. StepGives stack.new next (at_open_paren (frame_variant.Put slot ∷ stack.old, state_variant.ArrayDue) mark.now)) }
 {
     if !is_open_paren(mark) {
         return refuse(slot);
@@ -214,11 +210,11 @@ fn name_all(before: Before, mark: &FormulaMark) -> Result<Option<State>, AllocEr
 /// One token. None: nothing goes on with it.
 pub(crate) fn step(
     alloc: Global,
-    stack: &mut Vec<Frame>,
+    stack: &mut Stack,
     state: State,
     mark: &FormulaMark,
 ) -> Result<Option<State>, AllocError>
-    ensures { IfOk result (λ next. StepGives (reverse stack.new.items) next (stepped (reverse stack.old.items) state mark.now)) }
+    ensures { IfOk result (λ next. StepGives stack.new next (stepped stack.old state mark.now)) }
 {
     match state {
         State::Factor(pending) => step_factor(alloc, stack, pending, mark),

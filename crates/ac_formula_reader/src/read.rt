@@ -1,5 +1,5 @@
 //! Reading formulas and terms from their texts.
-ghost use Rattle.std.specs.Prelude.{◌≡◌, ℕ, ◌+◌, ◌^◌, ◌≤◌, ◌<◌, List, [], ◌∷◌, ◌++◌, length, drop, reverse, IfOk, IfErr, IfSome, Some, None, Ok, Err};
+ghost use Rattle.std.specs.Prelude.{◌≡◌, ℕ, ◌+◌, ◌^◌, ◌≤◌, ◌<◌, List, [], ◌∷◌, ◌++◌, length, drop, IfOk, IfErr, IfSome, Some, None, Ok, Err};
 ghost use Rattle.ac_formula_printer.specs.FormulaText.{Goal, Terms, Formulas};
 ghost use Rattle.ac_formula_printer.specs.FormulaTokens.{IsText};
 ghost use Rattle.ac_formula_reader.specs.Refusals.{IsFault};
@@ -9,7 +9,7 @@ ghost use Rattle.ac_formula_reader.specs.FormulaPieces.{IsFirst, Advances, HasRu
 use crate::ending::{end_formula, end_term};
 use crate::machine::step;
 use crate::tokens::{Piece, first_token, run_length};
-use ac_formula_machine::{Frame, State, fresh, give_up, refuse, unbound};
+use ac_formula_machine::{Stack, State, fresh, give_up, refuse, unbound};
 use ac_formula_printer::Run;
 use ac_logic::{Formula, Term};
 use ac_shared::Shared;
@@ -43,7 +43,7 @@ impl From<AllocError> for FormulaFault {
 pub enum Reached {
     /// The token at this byte has no step.
     Stuck(usize),
-    Through(Vec<Frame>, State),
+    Through(Stack, State),
 }
 
 /// A state, and how many bytes lead to it.
@@ -56,11 +56,11 @@ pub struct Advance {
 /// One token at the front of the bytes, and the blanks behind it.
 fn read_token(
     alloc: Global,
-    stack: &mut Vec<Frame>,
+    stack: &mut Stack,
     state: State,
     bytes: &[u8],
 ) -> Result<Option<Advance>, AllocError>
-    ensures { IfOk result (λ next. Advances (reverse stack.old.items) state bytes.now (reverse stack.new.items) next) }
+    ensures { IfOk result (λ next. Advances stack.old state bytes.now stack.new next) }
 {
     match first_token(alloc, bytes) {
         Ok(Some(piece)) => take(alloc, stack, state, bytes, piece),
@@ -71,13 +71,13 @@ fn read_token(
 
 fn take(
     alloc: Global,
-    stack: &mut Vec<Frame>,
+    stack: &mut Stack,
     state: State,
     bytes: &[u8],
     piece: Piece,
 ) -> Result<Option<Advance>, AllocError>
     requires { IsFirst bytes.now (Some piece) }
-    ensures { IfOk result (λ next. Advances (reverse stack.old.items) state bytes.now (reverse stack.new.items) next) }
+    ensures { IfOk result (λ next. Advances stack.old state bytes.now stack.new next) }
 {
     let Piece { mark, len } = piece;
     let next = step(alloc, stack, state, &mark);
@@ -98,7 +98,7 @@ fn take(
 fn run(alloc: Global, bytes: &[u8], begun: State) -> Result<Reached, AllocError>
     ensures { IfOk result (λ reached. (g : Goal) → begun ≡ begun_state g → HasRun g bytes.now reached) }
 {
-    let mut stack = Vec::new(alloc);
+    let mut stack = Stack::new(alloc);
     let mut state = begun;
     let mut at = run_length(Run::Blank, bytes);
     while at < bytes.len() {
@@ -149,7 +149,7 @@ fn fault_at(place: usize) -> FormulaFault
 /// The formula that a text spells. `At` comes where the text spells none, with the byte at which no formula goes on, and
 /// `OutOfMemory` where memory ran out.
 ///
-/// The time is linear in the length of the text, but for bound names: each is looked for through all that is open around
+/// The time is linear in the length of the text, but for bound names: each is looked for among the names of the `all`s around
 /// it.
 pub fn read_formula(alloc: Global, text: &str) -> Result<Shared<Formula>, FormulaFault>
     requires { length text.now < 2 ^ 32 }
