@@ -22,7 +22,7 @@ fn is_input(program: &Program, name: &Name) -> bool
     }
 }
 
-/// The cell at the indexes was written.
+/// The cell at the indexes is marked.
 fn marked(
     alloc: Global,
     extents: &ExtentTerms,
@@ -37,7 +37,7 @@ fn marked(
     Shared::new(alloc, Formula::Eq(value, mark))
 }
 
-/// Every cell of the name was written.
+/// Every cell of the name is marked.
 fn marked_everywhere(
     alloc: Global,
     extents: &ExtentTerms,
