@@ -9,3 +9,4 @@ pub mod Conditions
 pub mod Targets
 pub mod AllConditions
 pub mod Weights
+pub mod Examples
