@@ -4,3 +4,8 @@ pub mod SitesHold
 pub mod Traces
 pub mod PlainTerms
 pub mod KeptByWrites
+pub mod Values
+pub mod Truths
+pub mod Loops
+pub mod Entering
+pub mod Induction

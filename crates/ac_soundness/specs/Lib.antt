@@ -6,3 +6,4 @@ pub mod Needs
 pub mod Readings
 pub mod Frames
 pub mod RunInvariant
+pub mod MeetsLaws
