@@ -1,1 +1,2 @@
 pub mod WeightsHold
+pub mod TargetsCover

@@ -9,3 +9,6 @@ pub mod Truths
 pub mod Loops
 pub mod Entering
 pub mod Induction
+pub mod Ranks
+pub mod RangesHold
+pub mod ConditionsValid
