@@ -1,5 +1,6 @@
 -- The ranges of the inputs hold in every state of a run from a start that fits.
 use Rattle.std.proofs.Common.{◌≡◌, ℕ, ◌<◌, ℤ, pos, nat_abs, ◌+ℤ◌, ◌≤ℤ◌, List, [], ◌∷◌, ◌++◌, Bool, true, false, ◌&&◌, Option, Some, None, is_some, refl, sym, ◌∙◌, ap, subst, if◌then◌else◌, bytes_eq, rules, arith, append_assoc, length, get_or}
+use Rattle.std.specs.List.{list_any}
 use Rattle.std.proofs.lemmas.Bool.{false≢true, true≢false}
 use Rattle.std.proofs.lemmas.List.Elements.{All-get_or}
 use Rattle.std.proofs.lemmas.Slice.Eq.{bytes_eq-Decides}
@@ -10,7 +11,7 @@ use Rattle.ac_tree.specs.declared.program.Item.{Item}
 use Rattle.ac_tree.specs.declared.program.ItemKind.{ItemKind}
 use Rattle.ac_tree.specs.declared.program.ItemKind.TheVariants.{Const, InputScalar, InputArray, VarScalar, VarArray}
 use Rattle.ac_tree.specs.declared.program.Program.{Program}
-use Rattle.ac_tree.specs.StaticRules.{KeepsStaticRules, kind_in, broken, is_declared, items_faults, item_faults, list_faults}
+use Rattle.ac_tree.specs.StaticRules.{KeepsStaticRules, kind_in, is_undeclared_extent, is_empty_range, is_bad_extent, extents_of, broken, is_declared, items_faults, item_faults, list_faults}
 use Rattle.ac_run.specs.declared.start.Start.{Start}
 use Rattle.ac_run.specs.Declarations.{NameBytes, Shape, Scalar, Vector, Matrix, kind_of, numbers_in, is_input_kind, extent, shape, shape_in}
 use Rattle.ac_run.specs.Memory.{Memory, is_inside, is_within, is_below, is_missing, number_at, place}
@@ -38,13 +39,14 @@ none-in (d ∷ ds) more x h = by (bytes_eq d.name x) h (λ k. none-in ds more x 
     by true h k = absurd (true≢false h)
     by false h k = k h
 
-not-again : (at : NodeId) (rule : ℕ) (b : Bool) (tests : List (ℕ × Bool)) → broken at ((rule, b) ∷ tests) ≡ [] → b ≡ false
-not-again at rule true tests h = cc
-not-again at rule false tests h = refl
+not_again : (at : NodeId) (q r t u : ℕ) (a b c d : Bool) → broken at ((q, a) ∷ (r, b) ∷ (t, c) ∷ (u, d) ∷ []) ≡ [] → a ≡ false
+not_again at q r t u true b c d h = cc
+not_again at q r t u false b c d h = refl
 
 own_kind : (before ds : List Item) (d : Item) → item_faults before d ≡ [] → kind_in (before ++ (d ∷ ds)) d.name ≡ Some d.kind
 own_kind before ds d h =
-    none-in before (d ∷ ds) d.name (not-again d.node.id _ (is_declared before d.name) _ h)
+    none-in before (d ∷ ds) d.name
+      (not_again d.node.id _ _ _ _ (is_declared before d.name) (list_any (is_undeclared_extent before) (extents_of d.kind)) (is_empty_range d.kind) (list_any (is_bad_extent before) (extents_of d.kind)) h)
     ∙ ap (λ b. if b then Some d.kind else kind_in ds d.name) ((bytes_eq-Decides d.name d.name).1 refl)
 
 module _ (p : Program) (start : Start) (accepted : KeepsStaticRules p) (fits : Fits p start) (m : Memory) (s : Shadow) (kept : Kept p start m) where
