@@ -1,7 +1,6 @@
 -- Where each condition of a target is valid, so is every cut of the program for it, by recursion over the tree.
-use Rattle.std.proofs.Common.{◌≡◌, ℕ, List, [], ◌∷◌, ◌++◌, Option, Some, None}
+use Rattle.std.proofs.Common.{List, [], ◌∷◌, ◌++◌, Option, Some, None}
 use Rattle.std.specs.List.{AllByRecursion}
-use Rattle.ac_tree.specs.declared.node.Node.{Node}
 use Rattle.ac_tree.specs.declared.node.NodeId.{NodeId}
 use Rattle.ac_tree.specs.declared.path.Cut.{Cut}
 use Rattle.ac_tree.specs.declared.path.Cut.TheVariants.{Start, Head, Exit, After}
@@ -15,7 +14,7 @@ use Rattle.ac_logic.specs.declared.formula.Formula.{Formula}
 use Rattle.ac_logic.specs.Meaning.{Valuation, Holds}
 use Rattle.ac_conditions.specs.Conditions.{IsValid, implied_by, condition, barrier_condition, conditions, block_conditions, list_conditions, conditions_at}
 use Rattle.ac_conditions.specs.Part.{Part}
-use Rattle.ac_conditions.specs.Preconditions.{past_barrier, before_block, before_list}
+use Rattle.ac_conditions.specs.Preconditions.{before_block, before_list}
 use Rattle.ac_conditions.specs.Ranges.{ranges}
 use Rattle.ac_soundness.specs.Opened.{hidden, formula_shape, formula_child}
 use Rattle.ac_soundness.specs.Validity.{AllHold, Follows, FollowsBehind, Valid, ValidBlock, ValidList, AllValid}

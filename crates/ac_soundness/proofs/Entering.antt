@@ -1,12 +1,12 @@
 -- A block, or the body of a program, in front of the frames of the rest.
-use Rattle.std.proofs.Common.{◌≡◌, ℕ, List, [], ◌∷◌, ◌++◌, map, Option, Some, None, refl, sym, ap, subst}
+use Rattle.std.proofs.Common.{◌≡◌, List, [], ◌∷◌, ◌++◌, map, Option, None, refl, sym, ap, subst}
 use Rattle.ac_tree.specs.declared.path.Target.{Target}
 use Rattle.ac_tree.specs.declared.program.Program.{Program}
 use Rattle.ac_tree.specs.declared.program.Stmt.{Stmt}
 use Rattle.ac_tree.specs.declared.program.StmtKind.{Row_of-Stmt, end_of-Stmt, more_of-Stmt}
 use Rattle.ac_run.specs.declared.start.Start.{Start}
 use Rattle.ac_run.specs.Declarations.{NameBytes}
-use Rattle.ac_run.specs.Run.{Task, Do, block}
+use Rattle.ac_run.specs.Run.{Do, block}
 use Rattle.ac_logic.specs.declared.formula.Formula.{Formula}
 use Rattle.ac_logic.specs.Meaning.{Valuation}
 use Rattle.ac_conditions.specs.Part.{Part}

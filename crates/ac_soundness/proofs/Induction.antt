@@ -1,5 +1,5 @@
 -- Each step of a run keeps the invariant: one lemma for each kind of statement.
-use Rattle.std.proofs.Common.{◌≡◌, ◌⊎◌, ℕ, zero, suc, ◌<◌, nat_eq, ℤ, pos, List, [], ◌∷◌, ◌++◌, map, length, Bool, true, false, Option, Some, None, refl, sym, ◌∙◌, ap, subst, if◌then◌else◌, append_assoc, arith, ◌+ℤ◌, ◌≤ℤ◌, int_le}
+use Rattle.std.proofs.Common.{◌≡◌, ◌⊎◌, ℕ, zero, suc, ◌<◌, ℤ, pos, List, [], ◌∷◌, ◌++◌, map, Bool, true, false, Option, Some, None, refl, sym, ◌∙◌, ap, subst, if◌then◌else◌, append_assoc, arith, ◌+ℤ◌, ◌≤ℤ◌, int_le}
 use mathlib.Core.Logic.{inl, inr}
 use Rattle.std.proofs.lemmas.Int.{ints, by_lt_z}
 use Rattle.ac_tree.specs.declared.node.Node.{Node}
@@ -11,7 +11,7 @@ use Rattle.ac_tree.specs.declared.program.Expr.{Expr}
 use Rattle.ac_tree.specs.declared.program.Index.{Index}
 use Rattle.ac_tree.specs.declared.program.Program.{Program}
 use Rattle.ac_tree.specs.declared.program.Stmt.{Stmt}
-use Rattle.ac_tree.specs.declared.program.StmtKind.{StmtKind, Row_of-Stmt, end_of-Stmt, more_of-Stmt, Set, Put, If', For', While', Hand, Skip}
+use Rattle.ac_tree.specs.declared.program.StmtKind.{StmtKind, Row_of-Stmt, Set, Put, If', For', While', Hand, Skip}
 use Rattle.ac_run.specs.declared.event.Cell.{Cell}
 use Rattle.ac_run.specs.declared.event.Event.{Event}
 use Rattle.ac_run.specs.declared.event.Event.TheVariants as event
@@ -36,7 +36,7 @@ use Rattle.ac_policy.specs.Terms.{term_of, first_index, second_index}
 use Rattle.ac_conditions.specs.Goals.{conjoined, under, site_goal, cond_goal}
 use Rattle.ac_conditions.specs.Hypotheses.{in_body, at_for_test, at_for_exit, at_while_exit, invariants, assumed}
 use Rattle.ac_conditions.specs.Part.{Part}
-use Rattle.ac_conditions.specs.Preconditions.{joined, variable, before_changes, past_barrier, element_write, role_use, scalar_changes, element_changes, while_entry, while_keep, for_entry, for_keep, set_goal, put_goal, ends_goal, before, before_block, before_list, for_head, while_head}
+use Rattle.ac_conditions.specs.Preconditions.{joined, variable, before_changes, past_barrier, element_write, role_use, scalar_changes, element_changes, while_entry, while_keep, for_entry, for_keep, set_goal, put_goal, ends_goal, before, before_block, before_list, while_head}
 use Rattle.ac_conditions.specs.Tests.{labelled, one_more, formula_of}
 use Rattle.ac_soundness.proofs.Entering.{behind_plain, tasks_enter, plain_enter, ranked_enter, path_enter, valid_enter, facts_enter, tasks_list, plain_list, ranked_list, path_list, valid_list, facts_list}
 use Rattle.ac_soundness.proofs.KeptByWrites.{kept_write}
@@ -54,7 +54,7 @@ use Rattle.ac_soundness.specs.NeverBad.{HasBad}
 use Rattle.ac_soundness.specs.Opened.{hidden, term_shape, term_child, array_shape, array_child, formula_shape, formula_child}
 use Rattle.ac_soundness.specs.Ranked.{NotIn, RankedCond, RankedStmt, RankedBlock, RankedList, read_names, ends_names}
 use Rattle.ac_soundness.specs.Readings.{Says, AllFine}
-use Rattle.ac_soundness.specs.RunInvariant.{IsClean, path_formula, ValidLoop, RestValid, ForKeeps, NearEnd, LoopFacts, GoesOn, RunInvariant}
+use Rattle.ac_soundness.specs.RunInvariant.{IsClean, path_formula, ValidLoop, RestValid, ForKeeps, NearEnd, LoopFacts, RunInvariant}
 use Rattle.ac_soundness.specs.Validity.{AllHold, Follows, FollowsBehind, Valid, ValidBlock, ValidList}
 
 le_same : (a : ℤ) → a ≤ℤ a

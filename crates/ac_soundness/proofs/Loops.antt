@@ -1,5 +1,5 @@
 -- What a `for` keeps while its body runs.
-use Rattle.std.proofs.Common.{◌≡◌, ◌⊎◌, ℕ, ℤ, pos, ◌+ℤ◌, ◌-ℤ◌, ◌*ℤ◌, neg_ℤ, ◌≤ℤ◌, List, [], ◌∷◌, ◌++◌, Bool, true, false, Option, Some, None, refl, sym, ◌∙◌, ap, subst, bytes_eq}
+use Rattle.std.proofs.Common.{◌≡◌, ℤ, ◌+ℤ◌, ◌-ℤ◌, ◌*ℤ◌, neg_ℤ, ◌≤ℤ◌, List, [], ◌∷◌, ◌++◌, false, Option, Some, None, refl, sym, ◌∙◌, subst, bytes_eq}
 use Rattle.ac_tree.specs.declared.program.ExprKind.{ExprKind}
 use Rattle.ac_tree.specs.declared.program.ExprKind.TheVariants.{Num, Get, Read}
 use Rattle.ac_tree.specs.declared.program.Index.{Index}

@@ -1,5 +1,5 @@
 -- What a path formula that holds says of its parts.
-use Rattle.std.proofs.Common.{◌≡◌, ℕ, nat_eq, List, [], ◌∷◌, ◌++◌, map, Bool, true, false, Option, Some, None, refl, subst}
+use Rattle.std.proofs.Common.{ℕ, nat_eq, List, [], ◌∷◌, ◌++◌, map, Bool, true, false, Option, Some, None, refl, subst}
 use Rattle.std.proofs.lemmas.Bool.{eq-eqb}
 use Rattle.ac_tree.specs.declared.node.NodeId.{NodeId}
 use Rattle.ac_tree.specs.declared.path.Target.{Target}

@@ -1,5 +1,5 @@
 -- The terms of expressions are plain, and the changes of a write are closed.
-use Rattle.std.proofs.Common.{◌≡◌, List, [], ◌∷◌, ◌++◌}
+use Rattle.std.proofs.Common.{List, [], ◌∷◌}
 use Rattle.ac_tree.specs.declared.program.ExprKind.{ExprKind}
 use Rattle.ac_tree.specs.declared.program.ExprKind.TheVariants.{Num, Get, Read}
 use Rattle.ac_tree.specs.declared.program.Index.{Index}
@@ -8,9 +8,8 @@ use Rattle.ac_tree.specs.Patterns.{Negative, Plus, Minus, Times, OneIndex, TwoIn
 use Rattle.ac_logic.specs.declared.formula.Change.{Change}
 use Rattle.ac_logic.specs.declared.formula.Change.TheVariants.{Scalar, Array}
 use Rattle.ac_logic.specs.declared.formula.Sym.TheVariants.{Value, Init, Fresh}
-use Rattle.ac_logic.specs.Bounds.{IsTermClosed}
 use Rattle.ac_logic.specs.Substitution.{AreClosedChanges}
-use Rattle.ac_policy.specs.Laws.{AreShadowChanges, IsPlainSite}
+use Rattle.ac_policy.specs.Laws.{AreShadowChanges}
 use Rattle.ac_policy.specs.Plain.{IsPlainTerm}
 use Rattle.ac_policy.specs.PlainLaws.{literal_ground, scalar_ground}
 use Rattle.ac_policy.specs.Terms.{zero_term, term_of, first_index, second_index}

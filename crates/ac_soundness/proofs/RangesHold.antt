@@ -1,5 +1,5 @@
 -- The ranges of the inputs hold in every state of a run from a start that fits.
-use Rattle.std.proofs.Common.{◌≡◌, ℕ, ◌<◌, ℤ, pos, nat_abs, ◌+ℤ◌, ◌≤ℤ◌, List, [], ◌∷◌, ◌++◌, Bool, true, false, ◌&&◌, Option, Some, None, is_some, refl, sym, ◌∙◌, ap, subst, if◌then◌else◌, bytes_eq, rules, arith, append_assoc, length, get_or}
+use Rattle.std.proofs.Common.{◌≡◌, ℕ, ◌<◌, ℤ, pos, ◌+ℤ◌, ◌≤ℤ◌, List, [], ◌∷◌, ◌++◌, Bool, true, false, ◌&&◌, Option, Some, is_some, refl, sym, ◌∙◌, ap, subst, if◌then◌else◌, bytes_eq, append_assoc, length, get_or}
 use Rattle.std.specs.List.{list_any}
 use Rattle.std.proofs.lemmas.Bool.{false≢true, true≢false}
 use Rattle.std.proofs.lemmas.List.Elements.{All-get_or}
@@ -13,11 +13,11 @@ use Rattle.ac_tree.specs.declared.program.ItemKind.TheVariants.{Const, InputScal
 use Rattle.ac_tree.specs.declared.program.Program.{Program}
 use Rattle.ac_tree.specs.StaticRules.{KeepsStaticRules, kind_in, is_undeclared_extent, is_empty_range, is_bad_extent, extents_of, broken, is_declared, items_faults, item_faults, list_faults}
 use Rattle.ac_run.specs.declared.start.Start.{Start}
-use Rattle.ac_run.specs.Declarations.{NameBytes, Shape, Scalar, Vector, Matrix, kind_of, numbers_in, is_input_kind, extent, shape, shape_in}
-use Rattle.ac_run.specs.Memory.{Memory, is_inside, is_within, is_below, is_missing, number_at, place}
+use Rattle.ac_run.specs.Declarations.{NameBytes, Scalar, Vector, Matrix, kind_of, numbers_in, is_input_kind, extent, shape, shape_in}
+use Rattle.ac_run.specs.Memory.{Memory, is_inside, is_within, is_below, number_at, place}
 use Rattle.ac_run.specs.Start.{count, Fits, InRange, is_held}
 use Rattle.ac_logic.specs.declared.formula.Formula.{Formula}
-use Rattle.ac_logic.specs.Meaning.{Valuation, Holds, value}
+use Rattle.ac_logic.specs.Meaning.{value}
 use Rattle.ac_policy.specs.BoundsLaws.{below}
 use Rattle.ac_policy.specs.Extents.{extent_term}
 use Rattle.ac_policy.specs.ExtentsHold.{extent_is}

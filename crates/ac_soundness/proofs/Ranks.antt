@@ -1,13 +1,11 @@
 -- The static rules and the fit of a start give each name its rank, each assigned name its cells, and each `for` its protected
 -- names: one recursion over the faults of statements, of which there are none.
-use Rattle.std.proofs.Common.{◌≡◌, ℕ, ◌+◌, ◌*◌, ◌<◌, ℤ, pos, nat_abs, nat_eq, List, [], ◌∷◌, ◌++◌, Bool, true, false, not, ◌||◌, ◌&&◌, Option, Some, None, is_some, refl, sym, ◌∙◌, ap, subst, bytes_eq, rules, arith, length}
+use Rattle.std.proofs.Common.{◌≡◌, ℕ, ◌+◌, ◌*◌, ◌<◌, ℤ, nat_abs, nat_eq, List, [], ◌∷◌, ◌++◌, Bool, true, false, not, ◌||◌, ◌&&◌, Option, Some, None, refl, sym, ◌∙◌, ap, subst, bytes_eq, arith, length}
 use Rattle.std.proofs.lemmas.Bool.{false≢true, true≢false}
 use Rattle.std.proofs.lemmas.Slice.Eq.{bytes_eq-Decides}
-use Rattle.ac_tree.specs.declared.node.Node.{Node}
 use Rattle.ac_tree.specs.declared.node.NodeId.{NodeId}
 use Rattle.ac_tree.specs.declared.program.CondKind.{CondKind}
 use Rattle.ac_tree.specs.declared.program.CondKind.TheVariants.{True, False, Rel}
-use Rattle.ac_tree.specs.declared.program.Expr.{Expr}
 use Rattle.ac_tree.specs.declared.program.ExprKind.{ExprKind}
 use Rattle.ac_tree.specs.declared.program.ExprKind.TheVariants.{Num, Get, Read}
 use Rattle.ac_tree.specs.declared.program.Extents.TheVariants.{One, Two}
@@ -22,9 +20,9 @@ use Rattle.ac_tree.specs.StaticRules.{KeepsStaticRules, Loop, broken, rank, is_c
 use Rattle.ac_tree.specs.StaticRules as rule
 use Rattle.ac_run.specs.declared.start.Start.{Start}
 use Rattle.ac_run.specs.Declarations.{NameBytes, Shape, Scalar, Vector, Matrix, kind_of, numbers_in, is_input_kind, shape, shape_in}
-use Rattle.ac_run.specs.Memory.{is_inside, is_within, is_below, is_missing, place, place_in}
+use Rattle.ac_run.specs.Memory.{is_within, is_below, is_missing, place, place_in}
 use Rattle.ac_run.specs.Start.{count, Fits, is_held}
-use Rattle.ac_policy.specs.FitsGives.{FitsNumbers, numbers-fit, front-nil, back-nil}
+use Rattle.ac_policy.specs.FitsGives.{numbers-fit, front-nil, back-nil}
 use Rattle.ac_policy.specs.State.{IsScalar, cell}
 use Rattle.ac_soundness.proofs.Writes.{below_is, and_both}
 use Rattle.ac_soundness.specs.Opened.{hidden, expr_shape, expr_child, cond_shape, cond_child}

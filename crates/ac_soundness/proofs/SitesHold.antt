@@ -1,5 +1,5 @@
 -- Where the goals of sites hold for every target, the needs of the sites hold.
-use Rattle.std.proofs.Common.{◌≡◌, ℕ, nat_eq, List, [], ◌∷◌, ◌++◌, Bool, true, false, Option, Some, None, refl, subst, if◌then◌else◌}
+use Rattle.std.proofs.Common.{List, [], ◌∷◌, ◌++◌, Bool, Option, Some, None, refl, subst, if◌then◌else◌}
 use Rattle.std.proofs.lemmas.Bool.{eq-eqb}
 use Rattle.ac_tree.specs.declared.node.NodeId.{NodeId}
 use Rattle.ac_tree.specs.declared.path.Target.{Target}
@@ -10,7 +10,7 @@ use Rattle.ac_tree.specs.declared.program.Program.{Program}
 use Rattle.ac_tree.specs.Patterns.{Negation, Conjunction, Disjunction}
 use Rattle.ac_logic.specs.declared.formula.Formula.{Formula}
 use Rattle.ac_logic.specs.declared.label.LabelKind.TheVariants as label
-use Rattle.ac_logic.specs.Meaning.{Valuation, Holds}
+use Rattle.ac_logic.specs.Meaning.{Valuation}
 use Rattle.ac_logic.specs.Patterns.{Negation as Not}
 use Rattle.ac_policy.specs.declared.site.Site.{Site}
 use Rattle.ac_policy.specs.Laws.{HoldsIf}

@@ -1,5 +1,5 @@
 -- Terms have the numbers that evaluation gives, and the reads of an expression whose needs hold are fine.
-use Rattle.std.proofs.Common.{◌≡◌, ℕ, ℤ, pos, ◌+ℤ◌, ◌-ℤ◌, ◌*ℤ◌, neg_ℤ, List, [], ◌∷◌, ◌++◌, Bool, true, false, Option, Some, None, refl, sym, ◌∙◌, ap, subst, if◌then◌else◌, rules}
+use Rattle.std.proofs.Common.{◌≡◌, ℤ, pos, ◌+ℤ◌, ◌-ℤ◌, ◌*ℤ◌, neg_ℤ, List, [], ◌∷◌, ◌++◌, Bool, true, false, Option, Some, None, refl, sym, ◌∙◌, ap, subst, if◌then◌else◌}
 use Rattle.ac_tree.specs.declared.node.NodeId.{NodeId}
 use Rattle.ac_tree.specs.declared.program.ExprKind.{ExprKind}
 use Rattle.ac_tree.specs.declared.program.ExprKind.TheVariants.{Num, Get, Read}
@@ -19,7 +19,7 @@ use Rattle.ac_run.specs.Memory.{Memory, is_inside, number_at}
 use Rattle.ac_logic.specs.declared.formula.Formula.{Formula}
 use Rattle.ac_logic.specs.declared.formula.Sym.TheVariants.{Value}
 use Rattle.ac_logic.specs.declared.formula.Term.{Term}
-use Rattle.ac_logic.specs.Meaning.{Valuation, value}
+use Rattle.ac_logic.specs.Meaning.{value}
 use Rattle.ac_logic.specs.Patterns.{Scalar}
 use Rattle.ac_policy.specs.declared.site.Site.{Site}
 use Rattle.ac_policy.specs.declared.site.SiteKind.TheVariants as kind

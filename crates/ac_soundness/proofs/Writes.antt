@@ -1,10 +1,10 @@
 -- What a write does to the valuation of a state.
 use Rattle.ac_run.specs.declared.start.Start.{Start}
-use Rattle.std.proofs.Common.{◌≡◌, ◌≢◌, ◌⊎◌, ℕ, ◌+◌, ◌*◌, ◌/◌, ◌%◌, ◌<◌, ◌≤◌, nat_abs, ℤ, pos, negsuc, int_le, int_lt, ◌≤ℤ◌, not, List, [], ◌∷◌, ◌++◌, Bool, true, false, Option, Some, None, refl, sym, ◌∙◌, ap, subst, if◌then◌else◌, rules, arith, bytes_eq, get_or, set, length, ◌&&◌, inl, inr}
+use Rattle.std.proofs.Common.{◌≡◌, ◌≢◌, ℕ, ◌+◌, ◌*◌, ◌/◌, ◌%◌, ◌<◌, nat_abs, ℤ, pos, negsuc, int_le, int_lt, List, [], ◌∷◌, Bool, true, false, refl, sym, ◌∙◌, ap, subst, if◌then◌else◌, arith, bytes_eq, set, length, ◌&&◌}
 use Rattle.std.specs.Ordering.{int_eq}
 use Rattle.std.proofs.lemmas.Bool.Decides.{Decides-int_eq, not_from_Decides}
 use Rattle.std.proofs.lemmas.Slice.Eq.{bytes_eq-Decides}
-use Rattle.std.proofs.lemmas.Bool.{false≢true, true≢false, ltb-true}
+use Rattle.std.proofs.lemmas.Bool.{false≢true, ltb-true}
 use Rattle.std.proofs.lemmas.Nat.{div-mul-add, mod-mul-add}
 use Rattle.std.proofs.lemmas.List.{get_or-set_same, get_or-set_other}
 use Rattle.ac_tree.specs.declared.program.Program.{Program}
@@ -15,14 +15,13 @@ use Rattle.ac_logic.specs.declared.formula.Sym.TheVariants.{Value, Init, Fresh}
 use Rattle.ac_logic.specs.declared.formula.Term.{Term}
 use Rattle.ac_logic.specs.declared.formula.Term.TheVariants as term
 use Rattle.ac_logic.specs.declared.formula.ArrayTerm.TheVariants as array
-use Rattle.ac_logic.specs.declared.formula.ArrayTerm.{ArrayTerm}
 use Rattle.ac_logic.specs.declared.formula.Change.{Change}
 use Rattle.ac_logic.specs.declared.formula.Change.TheVariants.{Scalar, Array}
 use Rattle.ac_soundness.specs.Opened.{hidden, term_shape, term_child, array_shape, array_child}
 use Rattle.ac_logic.specs.Meaning.{Valuation, with_cell, value, table_of}
 use Rattle.ac_logic.specs.Substitution.{changed, scalar_after, array_symbol_after}
 use Rattle.ac_policy.specs.State.{Shadow, cell, element, scalar_or, element_or, state, state_number, state_table}
-use Rattle.ac_policy.specs.Laws.{AreShadowChanges, Foretells}
+use Rattle.ac_policy.specs.Laws.{AreShadowChanges}
 use Rattle.ac_policy.specs.State.{IsArray, IsScalar}
 use Rattle.ac_run.specs.Declarations.{NameBytes, Shape, Scalar as Single, Vector, Matrix, numbers_in, shape}
 use Rattle.ac_run.specs.Memory.{Memory, set_numbers, is_within, place_in, place, is_inside, number_at, write, is_below, is_missing}

@@ -2,7 +2,6 @@
 -- under way has its own frames.
 use mathlib.Core.Former.{Count}
 use Rattle.std.specs.Prelude.{◌≡◌, List, [], ◌∷◌, ◌++◌, ℤ}
-use Rattle.ac_tree.specs.declared.node.Node.{Node}
 use Rattle.ac_tree.specs.declared.node.NodeId.{NodeId}
 use Rattle.ac_tree.specs.declared.program.Expr.{Expr}
 use Rattle.ac_tree.specs.declared.program.Program.{Program}

@@ -1,6 +1,6 @@
 -- What the static rules and the fit of a start give to the induction: each name is used with its rank, an assigned name is no
 -- input and has a number for each cell, and a `for` keeps clear of the names that the loops around it protect.
-use Rattle.std.specs.Prelude.{◌≡◌, ◌<◌, ℕ, false, true, List, [], ◌∷◌, ◌++◌, length, ℤ}
+use Rattle.std.specs.Prelude.{◌≡◌, ◌<◌, false, true, List, [], ◌∷◌, ◌++◌, length, ℤ}
 use Rattle.std.specs.Str.{bytes_eq}
 use Rattle.ac_tree.specs.declared.program.CondKind.{CondKind}
 use Rattle.ac_tree.specs.declared.program.CondKind.TheVariants.{True, False, Rel}

@@ -1,5 +1,5 @@
 -- Readings of expressions and tests whose reads are not bad and whose answers are those that the logic gives.
-use Rattle.std.specs.Prelude.{◌≡◌, Bool, true, false, List, [], ◌∷◌, Option, Some}
+use Rattle.std.specs.Prelude.{◌≡◌, Bool, true, false, List, [], ◌∷◌, Some}
 use Rattle.ac_run.specs.declared.event.Cell.{Cell}
 use Rattle.ac_run.specs.declared.event.Event.{Event}
 use Rattle.ac_run.specs.declared.event.Event.TheVariants as event

@@ -1,6 +1,5 @@
 -- What the conditions say by recursion over the tree: at each cut the path formula holds wherever the hypotheses of the cut do.
-use Rattle.std.specs.Prelude.{ℕ, List, [], ◌∷◌, ◌++◌, Option, Some, None}
-use Rattle.ac_tree.specs.declared.node.Node.{Node}
+use Rattle.std.specs.Prelude.{List, [], ◌∷◌, ◌++◌, Option, None}
 use Rattle.ac_tree.specs.declared.node.NodeId.{NodeId}
 use Rattle.ac_tree.specs.declared.path.Target.{Target}
 use Rattle.ac_tree.specs.declared.program.Program.{Program}
