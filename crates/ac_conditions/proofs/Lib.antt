@@ -1,2 +1,4 @@
 pub mod WeightsHold
 pub mod TargetsCover
+pub mod Parts
+pub mod PairsMatch

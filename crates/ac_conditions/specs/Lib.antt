@@ -8,5 +8,6 @@ pub mod Hypotheses
 pub mod Conditions
 pub mod Targets
 pub mod AllConditions
+pub mod Marked
 pub mod Weights
 pub mod Examples
