@@ -40,18 +40,13 @@ use Rattle.ac_conditions.proofs.Parts.{IsThere, from_both, to_first, to_second, 
 use Rattle.ac_conditions.proofs.TargetsCover.{same_target}
 use Rattle.ac_conditions.specs.Conditions.{condition, barrier_condition, conditions, block_conditions, list_conditions, conditions_at}
 use Rattle.ac_conditions.specs.Goals.{conjoined, goal_if, under, site_goal, sites_goal, cond_goal}
-use Rattle.ac_conditions.specs.Hypotheses.{in_body}
+use Rattle.ac_conditions.specs.Hypotheses.{in_body, at_for_test, at_for_exit, at_while_exit, invariants}
 use Rattle.ac_conditions.specs.Marked.{ExprMarked, IndexMarked, CondMarked, StmtMarked, BlockMarked, ListMarked, AreMarked}
 use Rattle.ac_conditions.specs.Opened.{hidden, expr_shape, expr_child, cond_shape, cond_child, formula_shape, formula_child}
-use Rattle.ac_conditions.specs.Part.{Part}
+use Rattle.ac_conditions.specs.Part.{Part, is_any}
 use Rattle.ac_conditions.specs.Preconditions.{past_barrier, before_changes, element_write, role_use, scalar_changes, element_changes, for_entry, for_keep, while_entry, while_keep, set_goal, put_goal, ends_goal, before, before_block, before_list, for_head, while_head}
 use Rattle.ac_conditions.specs.Ranges.{ranges}
 use Rattle.ac_conditions.specs.Tests.{formula_of}
-
--- whether there are facts
-abbrev pub is_any : List Formula → Bool
-is_any [] = false
-is_any (f ∷ fs) = true
 
 -- the cuts that come to the end of one part or the other
 one_part : (c : Cut) (F Y N : List Cut) (a b : Bool) → IsListed ((if a || b then F else []) ++ (Y ++ N)) c → IsListed ((if a then F else []) ++ Y) c ⊎ IsListed ((if b then F else []) ++ N) c
@@ -429,3 +424,231 @@ module _ (p : Program) (q : PolicyName) (part : Part) (barrier subject : ℕ →
           [ inl g ↦ rest_forward n st rest cuts path (λ g. block_forward rest (onward barrier cuts n.id st) hs path m.1 (inl g)) (past_forward n.id st cuts hs (part.behind n.id) R (barriers n.id)
               (stmt_forward n.id st cuts hs (past_barrier t n.id (part.behind n.id) R) (barrier_condition p q part t n.id hs (part.behind n.id) R) m.0 (inr g)))
           | inr g ↦ more_forward n st rest cuts path (block_forward rest (onward barrier cuts n.id st) hs path m.1 (inr g)) ]
+
+  -- pairs to conditions
+
+  -- the condition of a barrier stands among those of its statement
+  barrier_listed : (n : NodeId) (k : StmtKind) (hs : List Formula) (path : Option Formula) (bs : List Condition) → Listed bs → Listed (conditions p q part t hs n k path bs)
+  barrier_listed n (Set x e) hs path bs h = h
+  barrier_listed n (Put x at e) hs path bs h = h
+  barrier_listed n (If' test i y j z) hs path bs h = listed_left bs _ h
+  barrier_listed n (For' x lo hi i body) hs path bs h = listed_right (condition p q part t (Head n) _ (for_head p part t n x hi body)) _ (listed_right (condition p q part t (Exit n) _ path) _ (listed_left bs _ h))
+  barrier_listed n (While' test i body) hs path bs h = listed_right (condition p q part t (Head n) _ (while_head p part t n test body)) _ (listed_right (condition p q part t (Exit n) _ path) _ (listed_left bs _ h))
+  barrier_listed n (Hand x role) hs path bs h = h
+  barrier_listed n Skip hs path bs h = h
+
+  barred_back : (n : NodeId) (k : StmtKind) (cuts : List Cut) (hs facts : List Formula) (path : Option Formula) → barrier n.0 ≡ is_any facts →
+      (Paired (stmt_pairs barrier subject cuts n k) → Aims cuts (before p part t n k (past_barrier t n facts path)) (conditions p q part t hs n k (past_barrier t n facts path) (barrier_condition p q part t n hs facts path)) ⊎ Barred n k cuts) →
+      (Has (come_behind barrier cuts n k) → IsThere (past_barrier t n facts path) → Aims cuts (before p part t n k (past_barrier t n facts path)) (conditions p q part t hs n k (past_barrier t n facts path) (barrier_condition p q part t n hs facts path))) →
+      Goes (stmt_pairs barrier subject cuts n k) (onward barrier cuts n k) path →
+      Aims cuts (before p part t n k (past_barrier t n facts path)) (conditions p q part t hs n k (past_barrier t n facts path) (barrier_condition p q part t n hs facts path))
+  barred_back n k cuts hs facts path e f g (inl h) = elim (f h) [ inl i ↦ i | inr i ↦ g i.2 (barred_there n facts path e i.0 i.1) ]
+  barred_back n k cuts hs facts path e f g (inr h) = elim (past_back n k cuts hs facts path e h.0 h.1)
+    [ inl i ↦ g i.0 i.1
+    | inr i ↦ inr (barrier_listed n k hs (past_barrier t n facts path) (barrier_condition p q part t n hs facts path) i) ]
+
+  -- a statement and the rest behind it
+  front_back : (path : Option Formula) (front rest : List Condition) (cuts : List Cut) → Aims cuts path front → Aims cuts path (front ++ rest)
+  front_back path front rest cuts (inl h) = inl h
+  front_back path front rest cuts (inr h) = inr (listed_left front rest h)
+
+  rest_back : (path : Option Formula) (front rest : List Condition) (cuts on : List Cut) (behind : Option Formula) → (Has on × IsThere behind → Aims cuts path front) → Aims on behind rest → Aims cuts path (front ++ rest)
+  rest_back path front rest cuts on behind f (inl h) = front_back path front rest cuts (f h)
+  rest_back path front rest cuts on behind f (inr h) = inr (listed_right front rest h)
+
+  -- the body of a loop
+  loop_body : {a : _} (n : NodeId) (body : Row_of-Stmt a) (head kept : Option Formula) (first inside : List Formula) (exit bs : List Condition) → (IsThere (before_block p part t body kept) → IsThere head) →
+      Aims (Head n ∷ []) (before_block p part t body kept) (block_conditions p q part t inside body kept) → Listed (condition p q part t (Head n) first head ++ (exit ++ (bs ++ block_conditions p q part t inside body kept)))
+  loop_body n body head kept first inside exit bs into (inl h) = elim h.0
+    [ inl e ↦ listed_left (condition p q part t (Head n) first head) _ (to_condition (Head n) first head e (into h.1))
+    | inr e ↦ absurd e ]
+  loop_body n body head kept first inside exit bs into (inr h) = listed_right (condition p q part t (Head n) first head) _ (listed_right exit _ (listed_right bs (block_conditions p q part t inside body kept) h))
+
+  -- the parts of an `if`
+  yes_back : (goal : Option Formula) (n : NodeId) (f g : Formula) (Y Z : Option Formula) (ys zs bs : List Condition) (cuts : List Cut) → Aims cuts Y ys → Aims cuts (conjoined goal (conjoined (under label.Test n f Y) (under label.Denied n g Z))) (bs ++ (ys ++ zs))
+  yes_back goal n f g Y Z ys zs bs cuts (inl h) = inl (h.0, to_second goal (conjoined (under label.Test n f Y) (under label.Denied n g Z)) (to_first (under label.Test n f Y) (under label.Denied n g Z) (to_premise label.Test n f Y h.1)))
+  yes_back goal n f g Y Z ys zs bs cuts (inr h) = inr (listed_right bs (ys ++ zs) (listed_left ys zs h))
+
+  no_back : (goal : Option Formula) (n : NodeId) (f g : Formula) (Y Z : Option Formula) (ys zs bs : List Condition) (cuts : List Cut) → Aims cuts Z zs → Aims cuts (conjoined goal (conjoined (under label.Test n f Y) (under label.Denied n g Z))) (bs ++ (ys ++ zs))
+  no_back goal n f g Y Z ys zs bs cuts (inl h) = inl (h.0, to_second goal (conjoined (under label.Test n f Y) (under label.Denied n g Z)) (to_second (under label.Test n f Y) (under label.Denied n g Z) (to_premise label.Denied n g Z h.1)))
+  no_back goal n f g Y Z ys zs bs cuts (inr h) = inr (listed_right bs (ys ++ zs) (listed_right ys zs h))
+
+  exit_listed : (n : NodeId) (head exit : List Condition) (hs : List Formula) (path : Option Formula) (more : List Condition) → Has (Exit n ∷ []) → IsThere path → Listed (head ++ (condition p q part t (Exit n) hs path ++ more))
+  exit_listed n head exit hs path more h j = elim h [ inl e ↦ listed_right head _ (listed_left (condition p q part t (Exit n) hs path) more (to_condition (Exit n) hs path e j)) | inr e ↦ absurd e ]
+
+  mutual
+    -- a pair of a statement
+    stmt_back : (n : NodeId) (k : StmtKind) (cuts : List Cut) (hs : List Formula) (path : Option Formula) (bs : List Condition) → StmtMarked p part.need subject n k → Paired (stmt_pairs barrier subject cuts n k) →
+        Aims cuts (before p part t n k path) (conditions p q part t hs n k path bs) ⊎ Barred n k cuts
+    stmt_back n (Set x e) cuts hs path bs m h =
+        let E = expr_pairs subject cuts e.node e.kind in
+        let S = site_pairs subject cuts n in
+        let s = scalar_write n x in
+        let es = expr_sites p e.node.id e.kind in
+        let after = before_changes n (scalar_changes p part n x (term_of p e.kind)) path in
+        elim (both_paired (barrier_pairs barrier cuts n) (S ++ E) h)
+          [ inl j ↦ (let g = from_barrier barrier c t n cuts j in inr (g.0, g.1, in-left cuts [] c g.2))
+          | inr j ↦ elim (both_paired S E j)
+              [ inl i ↦ (let g = site_back part.need subject c t s cuts m.0 i in inl (inl (g.0, to_first (set_goal p part t n x e) after (to_first (site_goal part.need t s) (sites_goal part.need t es) g.1))))
+              | inr i ↦ (let g = expr_back e.node e.kind cuts m.1 i in inl (inl (g.0, to_first (set_goal p part t n x e) after (to_second (site_goal part.need t s) (sites_goal part.need t es) g.1)))) ] ]
+    stmt_back n (Put x at e) cuts hs path bs m h =
+        let E = expr_pairs subject cuts e.node e.kind in
+        let I = index_pairs subject cuts at in
+        let S = site_pairs subject cuts n in
+        let s = element_write p n x at in
+        let es = expr_sites p e.node.id e.kind in
+        let is = index_sites p at in
+        let after = before_changes n (element_changes p part n x at (term_of p e.kind)) path in
+        elim (both_paired (barrier_pairs barrier cuts n) (S ++ (I ++ E)) h)
+          [ inl j ↦ (let g = from_barrier barrier c t n cuts j in inr (g.0, g.1, in-left cuts [] c g.2))
+          | inr j ↦ elim (both_paired S (I ++ E) j)
+              [ inl i ↦ (let g = site_back part.need subject c t s cuts m.0 i in inl (inl (g.0, to_first (put_goal p part t n x at e) after (to_first (site_goal part.need t s) (sites_goal part.need t (is ++ es)) g.1))))
+              | inr i ↦ (let g = two_back cuts is es I E (λ f. index_back at cuts m.1 f) (λ f. expr_back e.node e.kind cuts m.2 f) i in
+                  inl (inl (g.0, to_first (put_goal p part t n x at e) after (to_second (site_goal part.need t s) (sites_goal part.need t (is ++ es)) g.1)))) ] ]
+    stmt_back n (Hand x role) cuts hs path bs m h =
+        let s = role_use p n x role in
+        elim (both_paired (barrier_pairs barrier cuts n) (site_pairs subject cuts n) h)
+          [ inl j ↦ (let g = from_barrier barrier c t n cuts j in inr (g.0, g.1, in-left cuts [] c g.2))
+          | inr j ↦ (let g = site_back part.need subject c t s cuts m j in inl (inl (g.0, to_first (site_goal part.need t s) path g.1))) ]
+    stmt_back n Skip cuts hs path bs m h = let g = from_barrier barrier c t n cuts h in inr (g.0, g.1, in-left cuts [] c g.2)
+    stmt_back n (If' test i y j z) cuts hs path bs m h =
+        let F = come_behind barrier cuts n (If' test i y j z) in
+        let C = cond_pairs subject cuts test.kind in
+        let Y = block_pairs barrier subject cuts y in
+        let Z = block_pairs barrier subject cuts z in
+        let parts = conjoined (under label.Test n (formula_of p test.kind) (before_block p part t y path)) (under label.Denied n (Not (formula_of p test.kind)) (before_block p part t z path)) in
+        elim (both_paired (barrier_pairs barrier F n) (C ++ (Y ++ Z)) h)
+          [ inl g ↦ inr (from_barrier barrier c t n F g)
+          | inr g ↦ elim (both_paired C (Y ++ Z) g)
+              [ inl f ↦ (let e = cond_back test.kind cuts m.0 f in inl (inl (e.0, to_first (cond_goal part.need t p test.kind) parts e.1)))
+              | inr f ↦ elim (both_paired Y Z f)
+                  [ inl e ↦ inl (yes_back (cond_goal part.need t p test.kind) n (formula_of p test.kind) (Not (formula_of p test.kind)) (before_block p part t y path) (before_block p part t z path) (block_conditions p q part t hs y path) (block_conditions p q part t hs z path) bs cuts (block_back y cuts hs path m.1 (inl e)))
+                  | inr e ↦ inl (no_back (cond_goal part.need t p test.kind) n (formula_of p test.kind) (Not (formula_of p test.kind)) (before_block p part t y path) (before_block p part t z path) (block_conditions p q part t hs y path) (block_conditions p q part t hs z path) bs cuts (block_back z cuts hs path m.2 (inl e))) ] ] ]
+    stmt_back n (For' x lo hi i body) cuts hs path bs m h =
+        let L = behind_block barrier (Head n ∷ []) body in
+        let X = expr_pairs subject cuts lo.node lo.kind in
+        let Y = expr_pairs subject cuts hi.node hi.kind in
+        let Z = block_pairs barrier subject (Head n ∷ []) body in
+        let los = expr_sites p lo.node.id lo.kind in
+        let his = expr_sites p hi.node.id hi.kind in
+        let kept = for_keep p part t n x in
+        let hs2 = hs ++ in_body p part n x lo hi ∷ [] in
+        let first = hs ++ (at_for_test p part n x lo ∷ invariants p part n) in
+        let exit = condition p q part t (Exit n) (hs ++ (at_for_exit p part n x lo hi ∷ invariants p part n)) path in
+        elim (loop_parts n cuts L (X ++ (Y ++ Z)) h)
+          [ inl g ↦ inl (inl (g.0, to_second (ends_goal p part t lo hi) (for_entry p part t n x lo) (to_goal (is_entry t n) _ (entry_is n g.1))))
+          | inr g ↦ elim g
+              [ inl f ↦ inl (inr (loop_body n body (for_head p part t n x hi body) kept first hs2 exit bs (λ z. to_premise label.Test n _ (before_block p part t body kept) z) (block_back body (Head n ∷ []) hs2 kept m.2 (inr (f.0, to_goal (is_keep t n) _ (keep_is n f.1))))))
+              | inr f ↦ elim f
+                  [ inl e ↦ inr (from_barrier barrier c t n (Exit n ∷ []) e)
+                  | inr e ↦ elim (both_paired X (Y ++ Z) e)
+                      [ inl d ↦ (let a = expr_back lo.node lo.kind cuts m.0 d in inl (inl (a.0, to_first (ends_goal p part t lo hi) (for_entry p part t n x lo) (sites_left part.need subject c t los his a.1))))
+                      | inr d ↦ elim (both_paired Y Z d)
+                          [ inl b ↦ (let a = expr_back hi.node hi.kind cuts m.1 b in inl (inl (a.0, to_first (ends_goal p part t lo hi) (for_entry p part t n x lo) (sites_right part.need subject c t los his a.1))))
+                          | inr b ↦ inl (inr (loop_body n body (for_head p part t n x hi body) kept first hs2 exit bs (λ z. to_premise label.Test n _ (before_block p part t body kept) z) (block_back body (Head n ∷ []) hs2 kept m.2 (inl b)))) ] ] ] ] ]
+    stmt_back n (While' test i body) cuts hs path bs m h =
+        let L = behind_block barrier (Head n ∷ []) body in
+        let C = cond_pairs subject (Head n ∷ []) test.kind in
+        let Z = block_pairs barrier subject (Head n ∷ []) body in
+        let kept = while_keep p part t n in
+        let turn = under label.Test n (formula_of p test.kind) (before_block p part t body kept) in
+        let first = hs ++ invariants p part n in
+        let exit = condition p q part t (Exit n) (hs ++ (at_while_exit p part n test ∷ invariants p part n)) path in
+        elim (loop_parts n cuts L (C ++ Z) h)
+          [ inl g ↦ inl (inl (g.0, to_goal (is_entry t n) _ (entry_is n g.1)))
+          | inr g ↦ elim g
+              [ inl f ↦ inl (inr (loop_body n body (while_head p part t n test body) kept first hs exit bs (λ z. to_second (cond_goal part.need t p test.kind) turn (to_premise label.Test n (formula_of p test.kind) (before_block p part t body kept) z)) (block_back body (Head n ∷ []) hs kept m.1 (inr (f.0, to_goal (is_keep t n) _ (keep_is n f.1))))))
+              | inr f ↦ elim f
+                  [ inl e ↦ inr (from_barrier barrier c t n (Exit n ∷ []) e)
+                  | inr e ↦ elim (both_paired C Z e)
+                      [ inl d ↦ (let a = cond_back test.kind (Head n ∷ []) m.0 d in
+                          elim a.0
+                            [ inl b ↦ inl (inr (listed_left (condition p q part t (Head n) _ (while_head p part t n test body)) _ (to_condition (Head n) _ (while_head p part t n test body) b (to_first (cond_goal part.need t p test.kind) turn a.1))))
+                            | inr b ↦ absurd b ])
+                      | inr d ↦ inl (inr (loop_body n body (while_head p part t n test body) kept first hs exit bs (λ z. to_second (cond_goal part.need t p test.kind) turn (to_premise label.Test n (formula_of p test.kind) (before_block p part t body kept) z)) (block_back body (Head n ∷ []) hs kept m.1 (inl d)))) ] ] ] ]
+
+    -- a path that goes on behind a statement
+    stmt_on : (n : NodeId) (k : StmtKind) (cuts : List Cut) (hs : List Formula) (path : Option Formula) (bs : List Condition) → StmtMarked p part.need subject n k → Has (come_behind barrier cuts n k) → IsThere path →
+        Aims cuts (before p part t n k path) (conditions p q part t hs n k path bs)
+    stmt_on n (Set x e) cuts hs path bs m h j = inl (no_more cuts h, to_second (set_goal p part t n x e) (before_changes n (scalar_changes p part n x (term_of p e.kind)) path) (to_change n (scalar_changes p part n x (term_of p e.kind)) path j))
+    stmt_on n (Put x at e) cuts hs path bs m h j = inl (no_more cuts h, to_second (put_goal p part t n x at e) (before_changes n (element_changes p part n x at (term_of p e.kind)) path) (to_change n (element_changes p part n x at (term_of p e.kind)) path j))
+    stmt_on n (Hand x role) cuts hs path bs m h j = inl (no_more cuts h, to_second (site_goal part.need t (role_use p n x role)) path j)
+    stmt_on n Skip cuts hs path bs m h j = inl (no_more cuts h, j)
+    stmt_on n (If' test i y k z) cuts hs path bs m h j =
+        elim (one_part c cuts (block_exits barrier y) (block_exits barrier z) (block_passes barrier y) (block_passes barrier z) h)
+          [ inl g ↦ yes_back (cond_goal part.need t p test.kind) n (formula_of p test.kind) (Not (formula_of p test.kind)) (before_block p part t y path) (before_block p part t z path) (block_conditions p q part t hs y path) (block_conditions p q part t hs z path) bs cuts (block_back y cuts hs path m.1 (inr (g, j)))
+          | inr g ↦ no_back (cond_goal part.need t p test.kind) n (formula_of p test.kind) (Not (formula_of p test.kind)) (before_block p part t y path) (before_block p part t z path) (block_conditions p q part t hs y path) (block_conditions p q part t hs z path) bs cuts (block_back z cuts hs path m.2 (inr (g, j))) ]
+    stmt_on n (For' x lo hi i body) cuts hs path bs m h j = inr (exit_listed n (condition p q part t (Head n) _ (for_head p part t n x hi body)) [] _ path _ h j)
+    stmt_on n (While' test i body) cuts hs path bs m h j = inr (exit_listed n (condition p q part t (Head n) _ (while_head p part t n test body)) [] _ path _ h j)
+
+    block_back : {a : _} (row : Row_of-Stmt a) (cuts : List Cut) (hs : List Formula) (path : Option Formula) → BlockMarked p part.need subject row →
+        Goes (block_pairs barrier subject cuts row) (behind_block barrier cuts row) path → Aims cuts (before_block p part t row path) (block_conditions p q part t hs row path)
+    block_back end_of-Stmt cuts hs path m (inl h) = absurd h
+    block_back end_of-Stmt cuts hs path m (inr h) = inl (no_more cuts h.0, h.1)
+    block_back (more_of-Stmt n st rest) cuts hs path m (inl h) =
+        let R = before_block p part t rest path in
+        let pb = past_barrier t n.id (part.behind n.id) R in
+        let bs = barrier_condition p q part t n.id hs (part.behind n.id) R in
+        let here = barred_back n.id st cuts hs (part.behind n.id) R (barriers n.id) (λ g. stmt_back n.id st cuts hs pb bs m.0 g) (λ g i. stmt_on n.id st cuts hs pb bs m.0 g i) in
+        elim (both_paired (stmt_pairs barrier subject cuts n.id st) (block_pairs barrier subject (onward barrier cuts n.id st) rest) h)
+          [ inl g ↦ front_back (before p part t n.id st pb) (conditions p q part t hs n.id st pb bs) (block_conditions p q part t hs rest path) cuts (here (inl g))
+          | inr g ↦ rest_back (before p part t n.id st pb) (conditions p q part t hs n.id st pb bs) (block_conditions p q part t hs rest path) cuts (onward barrier cuts n.id st) R (λ i. here (inr i)) (block_back rest (onward barrier cuts n.id st) hs path m.1 (inl g)) ]
+    block_back (more_of-Stmt n st rest) cuts hs path m (inr h) =
+        let R = before_block p part t rest path in
+        let pb = past_barrier t n.id (part.behind n.id) R in
+        let bs = barrier_condition p q part t n.id hs (part.behind n.id) R in
+        let here = barred_back n.id st cuts hs (part.behind n.id) R (barriers n.id) (λ g. stmt_back n.id st cuts hs pb bs m.0 g) (λ g i. stmt_on n.id st cuts hs pb bs m.0 g i) in
+        let on = back_through c cuts (if barrier n.id.0 then After n.id ∷ [] else exits barrier n.id st) (block_exits barrier rest) (not (barrier n.id.0) && passes barrier st) (block_passes barrier rest) h.0 in
+        rest_back (before p part t n.id st pb) (conditions p q part t hs n.id st pb bs) (block_conditions p q part t hs rest path) cuts (onward barrier cuts n.id st) R (λ i. here (inr i)) (block_back rest (onward barrier cuts n.id st) hs path m.1 (inr (on, h.1)))
+
+  -- the body of a program, at whose end no path goes on
+  ahead : (P Q : List Pair) (on : List Cut) (path : Option Formula) → (Has on × IsThere path → Paired Q) → Goes P on path → Paired (P ++ Q)
+  ahead P Q on path f (inl h) = paired_left P Q h
+  ahead P Q on path f (inr h) = paired_right P Q (f h)
+
+  list_forward : (sts : List Stmt) (cuts : List Cut) (hs : List Formula) → ListMarked p part.need subject sts → Aims cuts (before_list p part t sts None) (list_conditions p q part t hs sts None) → Paired (list_pairs barrier subject cuts sts)
+  list_forward [] cuts hs m (inl h) = absurd h.1
+  list_forward [] cuts hs m (inr h) = absurd h
+  list_forward (st ∷ sts) cuts hs m (inl h) =
+      let n = st.node.id in
+      let R = before_list p part t sts None in
+      let pb = past_barrier t n (part.behind n) R in
+      let bs = barrier_condition p q part t n hs (part.behind n) R in
+      let on = onward barrier cuts n st.kind in
+      ahead (stmt_pairs barrier subject cuts n st.kind) (list_pairs barrier subject on sts) on R (λ i. list_forward sts on hs m.1 (inl i)) (past_forward n st.kind cuts hs (part.behind n) R (barriers n) (stmt_forward n st.kind cuts hs pb bs m.0 (inl h)))
+  list_forward (st ∷ sts) cuts hs m (inr h) =
+      let n = st.node.id in
+      let R = before_list p part t sts None in
+      let pb = past_barrier t n (part.behind n) R in
+      let bs = barrier_condition p q part t n hs (part.behind n) R in
+      let on = onward barrier cuts n st.kind in
+      let P = stmt_pairs barrier subject cuts n st.kind in
+      let Q = list_pairs barrier subject on sts in
+      elim (both_listed (conditions p q part t hs n st.kind pb bs) (list_conditions p q part t hs sts None) h)
+        [ inl g ↦ ahead P Q on R (λ i. list_forward sts on hs m.1 (inl i)) (past_forward n st.kind cuts hs (part.behind n) R (barriers n) (stmt_forward n st.kind cuts hs pb bs m.0 (inr g)))
+        | inr g ↦ paired_right P Q (list_forward sts on hs m.1 (inr g)) ]
+
+  list_back : (sts : List Stmt) (cuts : List Cut) (hs : List Formula) → ListMarked p part.need subject sts → Paired (list_pairs barrier subject cuts sts) → Aims cuts (before_list p part t sts None) (list_conditions p q part t hs sts None)
+  list_back [] cuts hs m h = absurd h
+  list_back (st ∷ sts) cuts hs m h =
+      let n = st.node.id in
+      let R = before_list p part t sts None in
+      let pb = past_barrier t n (part.behind n) R in
+      let bs = barrier_condition p q part t n hs (part.behind n) R in
+      let here = barred_back n st.kind cuts hs (part.behind n) R (barriers n) (λ g. stmt_back n st.kind cuts hs pb bs m.0 g) (λ g i. stmt_on n st.kind cuts hs pb bs m.0 g i) in
+      elim (both_paired (stmt_pairs barrier subject cuts n st.kind) (list_pairs barrier subject (onward barrier cuts n st.kind) sts) h)
+        [ inl g ↦ front_back (before p part t n st.kind pb) (conditions p q part t hs n st.kind pb bs) (list_conditions p q part t hs sts None) cuts (here (inl g))
+        | inr g ↦ rest_back (before p part t n st.kind pb) (conditions p q part t hs n st.kind pb bs) (list_conditions p q part t hs sts None) cuts (onward barrier cuts n st.kind) R (λ i. here (inr i)) (list_back sts (onward barrier cuts n st.kind) hs m.1 g) ]
+
+  pub pairs_forward : AreMarked p part.need subject → IsListed (pairs_in (conditions_at p q part t)) (record { cut = c; target = t }) → IsListed (list_pairs barrier subject (Start ∷ []) p.body) (record { cut = c; target = t })
+  pairs_forward m h = elim (both_listed (condition p q part t Start (ranges p p.items) (before_list p part t p.body None)) (list_conditions p q part t (ranges p p.items) p.body None) h)
+    [ inl g ↦ (let f = from_condition Start _ (before_list p part t p.body None) g in list_forward p.body (Start ∷ []) (ranges p p.items) m (inl (inl f.0, f.1)))
+    | inr g ↦ list_forward p.body (Start ∷ []) (ranges p p.items) m (inr g) ]
+
+  pub pairs_back : AreMarked p part.need subject → IsListed (list_pairs barrier subject (Start ∷ []) p.body) (record { cut = c; target = t }) → IsListed (pairs_in (conditions_at p q part t)) (record { cut = c; target = t })
+  pairs_back m h =
+      let first = condition p q part t Start (ranges p p.items) (before_list p part t p.body None) in
+      let more = list_conditions p q part t (ranges p p.items) p.body None in
+      elim (list_back p.body (Start ∷ []) (ranges p p.items) m h)
+        [ inl g ↦ elim g.0 [ inl e ↦ listed_left first more (to_condition Start _ (before_list p part t p.body None) e g.1) | inr e ↦ absurd e ]
+        | inr g ↦ listed_right first more g ]

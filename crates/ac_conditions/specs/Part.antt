@@ -21,6 +21,11 @@ pub record Part : Type 0 where
   -- the facts behind a statement; where there is one, a barrier stands there
   pub behind : NodeId → List Formula
 
+-- whether there are facts
+abbrev pub is_any : List Formula → Bool
+is_any [] = false
+is_any (f ∷ fs) = true
+
 abbrev pub is_loop : NodeId → Place → Bool
 is_loop n (place.Loop m) = nat_eq m.0 n.0
 is_loop n (place.After m) = false
