@@ -2,3 +2,4 @@ pub mod WeightsHold
 pub mod TargetsCover
 pub mod Parts
 pub mod PairsMatch
+pub mod PairsOfConditions
