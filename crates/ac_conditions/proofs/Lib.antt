@@ -3,3 +3,4 @@ pub mod TargetsCover
 pub mod Parts
 pub mod PairsMatch
 pub mod PairsOfConditions
+pub mod SitesAimedAt

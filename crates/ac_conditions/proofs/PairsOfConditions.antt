@@ -84,7 +84,7 @@ module _ (p : Program) (q : PolicyName) (part : Part) where
     [ inl k ↦ subst (λ (v : Target). IsListed (pairs_in (At v)) (record { cut = c; target = t })) (sym (aims_there u (At u) (record { cut = c; target = t }) (all_aim p q part u) k)) k
     | inr k ↦ from_each_target us c t k ]
 
-  to_each_target : (us : List Target) (c : Cut) (t : Target) → (Apart t us → ⊥) → IsListed (pairs_in (At t)) (record { cut = c; target = t }) → IsListed (pairs_in (at_each At us)) (record { cut = c; target = t })
+  pub to_each_target : (us : List Target) (c : Cut) (t : Target) → (Apart t us → ⊥) → IsListed (pairs_in (At t)) (record { cut = c; target = t }) → IsListed (pairs_in (at_each At us)) (record { cut = c; target = t })
   to_each_target [] c t within h = absurd (within tt)
   to_each_target (u ∷ us) c t within h = by (is_same t u) refl (λ f. to_each_target us c t f h)
     where
@@ -93,7 +93,7 @@ module _ (p : Program) (q : PolicyName) (part : Part) where
         (subst (λ (v : Target). IsListed (pairs_in (conditions_at p q part v)) (record { cut = c; target = t })) (same_target t u e) h)
       by false e later = pairs_right (conditions_at p q part u) (at_each (conditions_at p q part) us) (record { cut = c; target = t }) (later (λ apart. within (e, apart)))
 
-  not_apart : (c : Cut) (t : Target) → IsListed (pairs_in (At t)) (record { cut = c; target = t }) → Apart t (list_targets p p.body) → ⊥
+  pub not_apart : (c : Cut) (t : Target) → IsListed (pairs_in (At t)) (record { cut = c; target = t }) → Apart t (list_targets p p.body) → ⊥
   not_apart c t h apart = subst (λ (cs : List Condition). IsListed (pairs_in cs) (record { cut = c; target = t })) (none_aims p q part t apart) h
 
   pub conditions_paired : (barrier subject : ℕ → Bool) → ((n : NodeId) → barrier n.0 ≡ is_any (part.behind n)) → AreMarked p part.need subject → (c : Cut) (t : Target) →

@@ -136,7 +136,7 @@ module _ (need : Site → Option Formula) (subject : ℕ → Bool) (c : Cut) (t 
       go true k = (refl, some_of_need s.node (need s) k)
       go false k = absurd k
 
-  to_site : (s : Site) → is_site t s.node ≡ true → is_some (need s) ≡ true → IsThere (site_goal need t s)
+  pub to_site : (s : Site) → is_site t s.node ≡ true → is_some (need s) ≡ true → IsThere (site_goal need t s)
   to_site s e k = go (is_site t s.node) e
     where
       go : (b : Bool) → b ≡ true → IsThere (if b then labelled_need s.node (need s) else None)
