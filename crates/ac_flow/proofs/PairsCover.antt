@@ -23,7 +23,7 @@ use Rattle.ac_flow.specs.Points.{Begin, Do, Behind, Enter, Test, Turn, Exit, Jud
 use Rattle.ac_flow.specs.Paths.{IsPointOf, first, next, LeadsTo, step, steps, Reaches}
 use Rattle.ac_flow.specs.Through.{passes, block_passes, goes_on, exits, block_exits, leaving, list_passes, list_exits, behind, onward, behind_block, behind_list}
 use Rattle.ac_flow.proofs.Within.{In, Sub, in-left, both, same, none, equal, late, early, pairwise, where-true, each-of, from-each, none-some, some-none, false-true, some-same}
-use Rattle.ac_flow.specs.Listed.{IsListed, IsAimedAt}
+use Rattle.ac_flow.specs.Listed.{IsListed, IsSubjectTarget}
 use Rattle.ac_flow.specs.Pairs.{each, site_pairs, expr_pairs, index_pairs, cond_pairs, barrier_pairs, loop_pairs, stmt_pairs, block_pairs, list_pairs}
 
 module _ (barrier subject : ℕ → Bool) where
@@ -548,7 +548,7 @@ module _ (barrier subject : ℕ → Bool) where
   sees-at n true F c h k = each-of (Site n) F c h
   sees-at n false F c h k = absurd (false-true k)
 
-  arrives : (p : Point) (F : List Cut) (c : Cut) (t : Target) → In F c → target_at barrier p ≡ Some t → IsAimedAt subject t → In (point_pairs F p) (record { cut = c; target = t })
+  arrives : (p : Point) (F : List Cut) (c : Cut) (t : Target) → In F c → target_at barrier p ≡ Some t → IsSubjectTarget subject t → In (point_pairs F p) (record { cut = c; target = t })
   arrives [] F c t h k a = absurd (none-some k)
   arrives (Begin ∷ rest) F c t h k a = absurd (none-some k)
   arrives (Do st ∷ rest) F c t h k a = absurd (none-some k)
@@ -564,7 +564,7 @@ module _ (barrier subject : ℕ → Bool) where
   arrives (See n ∷ rest) F c t h k a =
       in-left (site_pairs subject F n) (point_pairs F rest) _
       (subst (λ (u : Target). IsListed (site_pairs subject F n) (record { cut = c; target = u })) (some-same k)
-      (sees-at n (subject n.0) F c h (subst (λ (u : Target). IsAimedAt subject u) (sym (some-same k)) a)))
+      (sees-at n (subject n.0) F c h (subst (λ (u : Target). IsSubjectTarget subject u) (sym (some-same k)) a)))
 
   abbrev Comes : List Cut → Point → Cut → Type 0
   Comes F p c = (cut_at barrier p ≡ Some c) ⊎ ((cut_at barrier p ≡ None) × In F c)
@@ -573,7 +573,7 @@ module _ (barrier subject : ℕ → Bool) where
   comes F p q c s (inl h) = s.3 c h
   comes F p q c s (inr h) = s.2 h.0 c h.1
 
-  path-listed : {p q : Point} → LeadsTo barrier p q → (F : List Cut) (c : Cut) (t : Target) (all : List Pair) → Comes F p c → Sub (point_pairs F p) all → target_at barrier q ≡ Some t → IsAimedAt subject t →
+  path-listed : {p q : Point} → LeadsTo barrier p q → (F : List Cut) (c : Cut) (t : Target) (all : List Pair) → Comes F p c → Sub (point_pairs F p) all → target_at barrier q ≡ Some t → IsSubjectTarget subject t →
       In all (record { cut = c; target = t })
   path-listed (step {from = p} {to = q} h) F c t all k f e a = let s = one_step p q h F in f _ (s.1 _ (arrives q s.0 c t (comes F p q c s k) e a))
   path-listed (steps {from = p} {via = v} {to = q} h n path) F c t all k f e a =
@@ -583,5 +583,5 @@ module _ (barrier subject : ℕ → Bool) where
   point-listed p _ first = ([], all-done (cut.Start ∷ []) p.body)
   point-listed p _ (next {from = v} {to = s} k h) = let before = point-listed p v k in let st = one_step v s h before.0 in (st.0, (λ x y. before.1 x (st.1 x y)))
 
-  pub reached-listed : (p : Program) (c : Cut) (t : Target) → Reaches p barrier c t → IsAimedAt subject t → In (list_pairs barrier subject (cut.Start ∷ []) p.body) (record { cut = c; target = t })
+  pub reached-listed : (p : Program) (c : Cut) (t : Target) → Reaches p barrier c t → IsSubjectTarget subject t → In (list_pairs barrier subject (cut.Start ∷ []) p.body) (record { cut = c; target = t })
   reached-listed p c t r a = let found = point-listed p r.from r.of_program in path-listed r.path found.0 c t _ (inl r.is_cut) found.1 r.is_target a

@@ -22,7 +22,7 @@ use Rattle.ac_flow.specs.Opened.{hidden, expr_shape, expr_child, cond_shape, con
 use Rattle.ac_flow.specs.Points.{Do, Behind, Enter, Test, Turn, Exit, Judge, Decide, See, Point, reads_of, index_reads, block, Next, beginning, cut_at, target_at}
 use Rattle.ac_flow.specs.Paths.{IsPointOf, first, next, LeadsTo, step, steps, Reaches}
 use Rattle.ac_flow.specs.Through.{passes, block_passes, goes_on, exits, block_exits, leaving, behind, onward, behind_block}
-use Rattle.ac_flow.specs.Listed.{IsAimedAt}
+use Rattle.ac_flow.specs.Listed.{IsSubjectTarget}
 use Rattle.ac_flow.specs.Pairs.{each, site_pairs, expr_pairs, index_pairs, cond_pairs, barrier_pairs, loop_pairs, stmt_pairs, block_pairs, list_pairs}
 use Rattle.ac_flow.proofs.Within.{In, Sub, in-left, in-right, both, same, none, late, early, pairwise}
 
@@ -185,7 +185,7 @@ module _ (p : Program) (barrier subject : ℕ → Bool) where
   -- What is listed is reached.
 
   abbrev Good : Pair → Type 0
-  Good x = Reaches p barrier x.cut x.target × IsAimedAt subject x.target
+  Good x = Reaches p barrier x.cut x.target × IsSubjectTarget subject x.target
 
   abbrev AllGood : List Pair → Type 0
   AllGood xs = (x : Pair) → In xs x → Good x
@@ -198,7 +198,7 @@ module _ (p : Program) (barrier subject : ℕ → Bool) where
   all-both (y ∷ xs) ys f g x (inl e) = f x (inl e)
   all-both (y ∷ xs) ys f g x (inr h) = all-both xs ys (λ z k. f z (inr k)) g x h
 
-  each-good : (t : Target) (q : Point) (F : List Cut) → target_at barrier q ≡ Some t → IsAimedAt subject t → Here q F → AllGood (each F t)
+  each-good : (t : Target) (q : Point) (F : List Cut) → target_at barrier q ≡ Some t → IsSubjectTarget subject t → Here q F → AllGood (each F t)
   each-good t q F e a (b, k) = go F k
     where
       go : (E : List Cut) → ((c : Cut) → In E c → Led q c) → AllGood (each E t)
@@ -370,5 +370,5 @@ module _ (p : Program) (barrier subject : ℕ → Bool) where
       all-both (stmt_pairs barrier subject F st.node.id st.kind) (list_pairs barrier subject (onward barrier F st.node.id st.kind) sts) (stmt-good st.node st.kind (map Do sts) F h)
       (list-good sts (onward barrier F st.node.id st.kind) (leave st.node.id st.kind (map Do sts) F (stmt-on st.node st.kind (map Do sts) F h)))
 
-  pub listed-reached : (c : Cut) (t : Target) → In (list_pairs barrier subject (cut.Start ∷ []) p.body) (record { cut = c; target = t }) → Reaches p barrier c t × IsAimedAt subject t
+  pub listed-reached : (c : Cut) (t : Target) → In (list_pairs barrier subject (cut.Start ∷ []) p.body) (record { cut = c; target = t }) → Reaches p barrier c t × IsSubjectTarget subject t
   listed-reached c t h = list-good p.body (cut.Start ∷ []) (begun (beginning p) (map Do p.body) cut.Start refl (inl refl) first) (record { cut = c; target = t }) h

@@ -1,5 +1,5 @@
 -- Whether control leads from a statement to a target, by recursion over the tree, where `more` says whether it leads there
--- from behind the statement. Verification conditions follow this recursion.
+-- from behind the statement.
 use Rattle.std.specs.Prelude.{ℕ, nat_eq, Bool, true, false, ◌&&◌, ◌||◌, not, List, [], ◌∷◌, ◌++◌, Option, Some, None}
 use Rattle.std.specs.List.{list_any}
 use Rattle.ac_tree.specs.declared.node.Node.{Node}

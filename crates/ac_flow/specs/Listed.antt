@@ -9,8 +9,8 @@ IsListed [] x = ⊥
 IsListed (y ∷ ys) x = (x ≡ y) ⊎ IsListed ys x
 
 -- the targets at accesses are those of subject nodes; all others count
-abbrev pub IsAimedAt : (ℕ → Bool) → Target → Type 0
-IsAimedAt subject (Site n) = subject n.0 ≡ true
-IsAimedAt subject (Entry n) = Unit {0}
-IsAimedAt subject (Keep n) = Unit {0}
-IsAimedAt subject (Barrier n) = Unit {0}
+abbrev pub IsSubjectTarget : (ℕ → Bool) → Target → Type 0
+IsSubjectTarget subject (Site n) = subject n.0 ≡ true
+IsSubjectTarget subject (Entry n) = Unit {0}
+IsSubjectTarget subject (Keep n) = Unit {0}
+IsSubjectTarget subject (Barrier n) = Unit {0}

@@ -1,5 +1,5 @@
 -- The sites of a program have plain terms and, where it keeps the static rules, as many indexes as their names have extents.
-use Rattle.std.proofs.Common.{◌≡◌, ℕ, zero, suc, ◌<◌, List, [], ◌∷◌, ◌++◌, Bool, true, false, Option, Some, None, ℤ, pos, refl, subst, arith, Contains}
+use Rattle.std.proofs.Common.{◌≡◌, ℕ, zero, suc, List, [], ◌∷◌, ◌++◌, Bool, true, false, Option, Some, None, ℤ, refl, subst, arith, Contains}
 use Rattle.std.specs.List.{AllByRecursion}
 use Rattle.ac_tree.specs.declared.node.NodeId.{NodeId}
 use Rattle.ac_tree.specs.declared.program.CondKind.{CondKind}
@@ -13,16 +13,14 @@ use Rattle.ac_tree.specs.declared.program.ItemKind.TheVariants.{Const, InputScal
 use Rattle.ac_tree.specs.declared.program.Program.{Program}
 use Rattle.ac_tree.specs.declared.program.Stmt.{Stmt}
 use Rattle.ac_tree.specs.declared.program.StmtKind.{StmtKind, Row_of-Stmt, end_of-Stmt, more_of-Stmt, Set, Put, If', For', While', Hand, Skip}
-use Rattle.ac_tree.specs.declared.static_rules.StaticFault.{StaticFault}
 use Rattle.ac_tree.specs.Patterns.{Negative, Plus, Minus, Times, OneIndex, TwoIndexes, Negation, Conjunction, Disjunction}
 use Rattle.ac_tree.specs.StaticRules.{KeepsStaticRules, Loop, broken, index_count, use_tests, set_tests, for_tests, assignment_tests, expr_faults, index_faults, cond_faults, stmt_faults, block_faults, list_faults, items_faults}
 use Rattle.ac_run.specs.declared.start.Start.{Start}
 use Rattle.ac_run.specs.Declarations.{NameBytes, Shape, Scalar, Vector, Matrix, constant_of, kind_of, shape, shape_in}
-use Rattle.ac_logic.specs.declared.formula.Term.{Term}
 use Rattle.ac_policy.specs.declared.site.Site.{Site}
 use Rattle.ac_policy.specs.declared.site.SiteKind.{SiteKind}
 use Rattle.ac_policy.specs.declared.site.SiteKind.TheVariants as kind
-use Rattle.ac_policy.specs.FitsGives.{front-nil, back-nil}
+use Rattle.ac_policy.specs.FittingStart.{front-nil, back-nil}
 use Rattle.ac_policy.specs.Laws.{IsPlainSite, IsIndexed, HasIndexesOf}
 use Rattle.ac_policy.specs.Plain.{IsPlainTerm}
 use Rattle.ac_policy.specs.PlainLaws.{literal_ground, scalar_ground}

@@ -1,6 +1,5 @@
 -- Blocks are lists, and rows of statements as well.
-use Rattle.std.proofs.Common.{◌≡◌, ℕ, List, [], ◌∷◌, ◌++◌, rules, arith, ap, refl, sym, ◌∙◌, append_assoc, ◌+◌, ◌<◌, length, drop, get_or}
-use Rattle.std.proofs.lemmas.List.{drop_more}
+use Rattle.std.proofs.Common.{◌≡◌, ℕ, List, ◌++◌, rules, arith, ap, refl, sym, ◌∙◌, append_assoc}
 use mathlib.Core.Former.{Count}
 use Rattle.ac_tree.specs.declared.node.NodeId.{NodeId}
 use Rattle.ac_tree.specs.declared.program.Cond.{Cond}

@@ -1,5 +1,5 @@
 -- The laws of the three policies, each by its cases.
-use Rattle.std.specs.Prelude.{List, []}
+use Rattle.std.specs.Prelude.{[]}
 use Rattle.ac_tree.specs.declared.program.Program.{Program}
 use Rattle.ac_tree.specs.StaticRules.{KeepsStaticRules}
 use Rattle.ac_run.specs.declared.start.Start.{Start}
@@ -8,7 +8,7 @@ use Rattle.ac_policy.specs.declared.any_policy.AnyPolicy.{AnyPolicy}
 use Rattle.ac_policy.specs.declared.any_policy.AnyPolicy.TheVariants.{Init, Bounds, Symm}
 use Rattle.ac_policy.specs.AnyPolicy.{Forbids, shadow_of, need_at, effect_at, known_at}
 use Rattle.ac_policy.specs.BoundsLaws as bounds
-use Rattle.ac_policy.specs.FitsGives.{has-sizes}
+use Rattle.ac_policy.specs.FittingStart.{has-sizes}
 use Rattle.ac_policy.specs.InitLaws as init
 use Rattle.ac_policy.specs.Laws.{LawForm, LawEffect, LawNeed, LawKnown, LawFor}
 use Rattle.ac_policy.specs.SymmLaws as symm

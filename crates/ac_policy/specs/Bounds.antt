@@ -1,5 +1,5 @@
 -- The policy bounds: every access lies within the extents of its array. It has no shadow variables.
-use Rattle.std.specs.Prelude.{List, [], Option, Some, None, ℤ, pos}
+use Rattle.std.specs.Prelude.{List, [], Option, None, pos}
 use Rattle.ac_tree.specs.declared.program.Program.{Program}
 use Rattle.ac_run.specs.declared.event.Event.{Event}
 use Rattle.ac_run.specs.Declarations.{NameBytes}

@@ -1,32 +1,26 @@
 -- The laws of bounds.
-use Rattle.std.proofs.Common.{◌≡◌, ℕ, ◌<◌, ℤ, pos, negsuc, nat_abs, ◌+ℤ◌, ◌≤ℤ◌, int_le, int_lt, List, [], ◌∷◌, ◌++◌, Bool, true, false, ◌&&◌, Option, Some, None, refl, sym, ◌∙◌, ap, subst, rules, arith}
-use Rattle.std.specs.Ordering.{int_eq}
-use Rattle.std.proofs.lemmas.Bool.{false≢true, true≢false}
+use Rattle.std.proofs.Common.{◌≡◌, ℕ, ℤ, pos, ◌+ℤ◌, ◌≤ℤ◌, int_le, int_lt, List, [], Bool, true, false, ◌&&◌, refl, sym, ◌∙◌, subst, rules, arith}
+use Rattle.std.proofs.lemmas.Bool.{true≢false}
 use Rattle.std.proofs.lemmas.Int.{ints}
 use Rattle.ac_tree.specs.declared.program.Program.{Program}
 use Rattle.ac_tree.specs.declared.policy.PolicyName.TheVariants.{Bounds}
 use Rattle.ac_run.specs.declared.start.Start.{Start}
-use Rattle.ac_run.specs.declared.event.Cell.{Cell}
 use Rattle.ac_run.specs.declared.event.Event.{Event}
-use Rattle.ac_run.specs.declared.event.Event.TheVariants.{Read, Write, Hand}
 use Rattle.ac_run.specs.Declarations.{NameBytes, Shape, Scalar, Vector, Matrix, kind_of, shape}
-use Rattle.ac_run.specs.Memory.{Memory, is_inside, is_within, is_below, is_missing}
+use Rattle.ac_run.specs.Memory.{Memory, is_within, is_below, is_missing}
 use Rattle.ac_run.specs.Violation.{Bad}
 use Rattle.ac_logic.specs.declared.formula.Term.{Term}
-use Rattle.ac_logic.specs.declared.formula.Change.{Change}
-use Rattle.ac_logic.specs.declared.formula.Formula.{Formula}
-use Rattle.ac_logic.specs.Meaning.{Valuation, value, Holds}
+use Rattle.ac_logic.specs.Meaning.{value, Holds}
 use Rattle.ac_policy.specs.declared.site.Site.{Site}
 use Rattle.ac_policy.specs.declared.site.SiteKind.{SiteKind}
 use Rattle.ac_policy.specs.declared.site.SiteKind.TheVariants as kind
-use Rattle.ac_policy.specs.State.{Shadow, IsScalar, Kept, cell, state}
-use Rattle.ac_policy.specs.Laws.{LawForm, LawEffect, LawNeed, LawKnown, LawFor, HoldsIf, IsPlainIf, IsPlainSite, IsIndexed, HasIndexesOf, EventOf, cell_of}
-use Rattle.ac_policy.specs.Terms.{zero_term}
+use Rattle.ac_policy.specs.State.{Shadow, IsScalar, Kept, state}
+use Rattle.ac_policy.specs.Laws.{LawForm, LawEffect, LawNeed, LawKnown, LawFor, HoldsIf, IsPlainIf, IsPlainSite, IsIndexed, HasIndexesOf, EventOf}
 use Rattle.ac_policy.specs.declared.extents.ExtentTerms.{ExtentTerms}
 use Rattle.ac_policy.specs.declared.extents.ExtentTerms.TheVariants.{NoExtent, OneExtent, TwoExtents}
 use Rattle.ac_policy.specs.Extents.{index_within, indexes_within, extent_terms}
 use Rattle.ac_policy.specs.GoodExtents.{HasGoodExtents}
-use Rattle.ac_policy.specs.ExtentsHold.{ExtentsAre, extents_are}
+use Rattle.ac_policy.specs.ExtentValues.{ExtentsAre, extents_are}
 use Rattle.ac_policy.specs.Bounds.{bounds_need, bounds_need_of, no_shadow, no_effect, nothing_known}
 use Rattle.ac_policy.specs.PlainLaws.{extents_ground, within_plain}
 use Rattle.ac_policy.specs.Opened.{hidden, term_shape, term_child, array_shape, array_child, formula_shape, formula_child}

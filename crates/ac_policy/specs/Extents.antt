@@ -1,5 +1,5 @@
 -- The extents of a name as terms, and formulas on the cells within them.
-use Rattle.std.specs.Prelude.{ℕ, Option, Some, None, pos}
+use Rattle.std.specs.Prelude.{Option, Some, None, pos}
 use Rattle.ac_tree.specs.declared.program.Extent.{Extent}
 use Rattle.ac_tree.specs.declared.program.Extent.TheVariants.{Lit, Named}
 use Rattle.ac_tree.specs.declared.program.Extents.{Extents}

@@ -36,19 +36,19 @@ abbrev pub mark : Term
 mark = Num (pos 1)
 
 -- the cell at the indexes was written
-abbrev pub is_marked : ExtentTerms → NameBytes → Term → Term → Formula
+abbrev pub written_formula : ExtentTerms → NameBytes → Term → Term → Formula
 unfolding hidden term_shape term_child formula_shape formula_child
-is_marked extents x i j = Eq (cell_term extents (Init x) i j) mark
+written_formula extents x i j = Eq (cell_term extents (Init x) i j) mark
 
 -- every cell within the extents was written
-abbrev pub all_marked : ExtentTerms → NameBytes → Formula
-all_marked extents x = for_all_cells extents (is_marked extents x (row_index extents) (column_index extents))
+abbrev pub all_written_formula : ExtentTerms → NameBytes → Formula
+all_written_formula extents x = for_all_cells extents (written_formula extents x (row_index extents) (column_index extents))
 
 abbrev pub init_need_of : Bool → SiteKind → Program → Site → Option Formula
 init_need_of true k p s = None
-init_need_of false kind.Read p s = Some (is_marked (extent_terms p s.name) s.name s.i s.j)
+init_need_of false kind.Read p s = Some (written_formula (extent_terms p s.name) s.name s.i s.j)
 init_need_of false kind.Write p s = None
-init_need_of false (kind.Hand role) p s = Some (all_marked (extent_terms p s.name) s.name)
+init_need_of false (kind.Hand role) p s = Some (all_written_formula (extent_terms p s.name) s.name)
 
 -- nothing is to be shown of an input, nor of a write
 abbrev pub init_need : Program → Site → Option Formula

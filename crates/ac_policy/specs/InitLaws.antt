@@ -1,5 +1,5 @@
 -- The laws of init.
-use Rattle.std.proofs.Common.{◌≡◌, ℕ, ◌<◌, ℤ, pos, nat_abs, ◌+ℤ◌, ◌≤ℤ◌, int_le, int_lt, List, [], ◌∷◌, ◌++◌, Bool, true, false, ◌&&◌, Option, Some, None, refl, sym, ◌∙◌, ap, subst, if◌then◌else◌, rules, bytes_eq, Contains, suc, length, arith, IsTrue}
+use Rattle.std.proofs.Common.{◌≡◌, ℕ, ℤ, pos, ◌+ℤ◌, ◌≤ℤ◌, int_le, int_lt, List, [], ◌∷◌, ◌++◌, Bool, true, false, ◌&&◌, Option, Some, None, refl, sym, ◌∙◌, ap, subst, if◌then◌else◌, rules, bytes_eq, suc, arith}
 use Rattle.std.specs.Ordering.{int_eq}
 use Rattle.std.proofs.lemmas.Bool.{false≢true}
 use Rattle.std.proofs.lemmas.Bool.Decides.{Decides-int_eq}
@@ -22,19 +22,19 @@ use Rattle.ac_logic.specs.declared.formula.Sym.TheVariants.{Init}
 use Rattle.ac_logic.specs.declared.formula.Term.{Term}
 use Rattle.ac_logic.specs.declared.formula.Term.TheVariants as term
 use Rattle.ac_logic.specs.declared.formula.ArrayTerm.TheVariants as array
-use Rattle.ac_logic.specs.Meaning.{Valuation, value, table_of, with_cell, Holds}
+use Rattle.ac_logic.specs.Meaning.{value, table_of, Holds}
 use Rattle.ac_logic.specs.Substitution.{changed}
 use Rattle.ac_policy.specs.declared.site.Site.{Site}
 use Rattle.ac_policy.specs.declared.site.SiteKind.{SiteKind}
 use Rattle.ac_policy.specs.declared.site.SiteKind.TheVariants as kind
-use Rattle.ac_policy.specs.State.{Shadow, IsScalar, IsArray, Kept, cell, state, state_number, state_table, element_or, scalar_or}
-use Rattle.ac_policy.specs.Laws.{LawKnown, LawFor, LawForm, LawEffect, LawNeed, Foretells, AreShadowChanges, AreDifferent, IsPlainIf, IsPlainSite, IsIndexed, HasIndexesOf, EventOf, HoldsIf, cell_of}
+use Rattle.ac_policy.specs.State.{IsScalar, IsArray, Kept, cell, state, state_number, state_table, element_or, scalar_or}
+use Rattle.ac_policy.specs.Laws.{LawKnown, LawFor, LawForm, LawEffect, LawNeed, TurnsShadowInto, AreShadowChanges, AreDifferent, IsPlainIf, IsPlainSite, IsIndexed, HasIndexesOf, EventOf, HoldsIf, cell_of}
 use Rattle.ac_policy.specs.declared.extents.ExtentTerms.{ExtentTerms}
 use Rattle.ac_policy.specs.declared.extents.ExtentTerms.TheVariants.{NoExtent, OneExtent, TwoExtents}
 use Rattle.ac_policy.specs.Extents.{extent_terms, extent_terms_in}
 use Rattle.ac_policy.specs.GoodExtents.{HasGoodExtents}
-use Rattle.ac_policy.specs.ExtentsHold.{ExtentsAre, extents_are}
-use Rattle.ac_policy.specs.Init.{is_cell, marks, mark, is_marked, all_marked, init_need_of, init_need, marking, init_effect_of, init_effect, init_known}
+use Rattle.ac_policy.specs.ExtentValues.{ExtentsAre, extents_are}
+use Rattle.ac_policy.specs.Init.{is_cell, marks, mark, written_formula, all_written_formula, init_need_of, init_need, marking, init_effect_of, init_effect, init_known}
 use Rattle.ac_policy.specs.PlainLaws.{extents_ground, marked_plain, all_marked_plain, marking_plain}
 use Rattle.ac_policy.specs.Opened.{hidden, term_shape, term_child, array_shape, array_child, formula_shape, formula_child}
 
@@ -101,22 +101,22 @@ and_both : (a b : Bool) → (a && b) ≡ true → (a ≡ true) × (b ≡ true)
 and_both true b e = (refl, e)
 and_both false b e = absurd (false≢true e)
 
--- the extent_terms are those of the shape
-abbrev HaveOneRank : ExtentTerms → Shape → Type 0
-HaveOneRank NoExtent Scalar = Unit {0}
-HaveOneRank (OneExtent e) (Vector n) = Unit {0}
-HaveOneRank (TwoExtents e f) (Matrix n m) = Unit {0}
-HaveOneRank _ _ = ⊥
+-- as many extents as the shape has
+abbrev HaveSameRank : ExtentTerms → Shape → Type 0
+HaveSameRank NoExtent Scalar = Unit {0}
+HaveSameRank (OneExtent e) (Vector n) = Unit {0}
+HaveSameRank (TwoExtents e f) (Matrix n m) = Unit {0}
+HaveSameRank _ _ = ⊥
 
-have_one_rank : (p : Program) (start : Start) (k : Option ItemKind) → HaveOneRank (extent_terms_in p k) (shape_in p start k)
-have_one_rank p start None = tt
-have_one_rank p start (Some (Const v)) = tt
-have_one_rank p start (Some (InputScalar lo hi)) = tt
-have_one_rank p start (Some VarScalar) = tt
-have_one_rank p start (Some (InputArray (One a) lo hi)) = tt
-have_one_rank p start (Some (InputArray (Two a b) lo hi)) = tt
-have_one_rank p start (Some (VarArray (One a))) = tt
-have_one_rank p start (Some (VarArray (Two a b))) = tt
+have_same_rank : (p : Program) (start : Start) (k : Option ItemKind) → HaveSameRank (extent_terms_in p k) (shape_in p start k)
+have_same_rank p start None = tt
+have_same_rank p start (Some (Const v)) = tt
+have_same_rank p start (Some (InputScalar lo hi)) = tt
+have_same_rank p start (Some VarScalar) = tt
+have_same_rank p start (Some (InputArray (One a) lo hi)) = tt
+have_same_rank p start (Some (InputArray (Two a b) lo hi)) = tt
+have_same_rank p start (Some (VarArray (One a))) = tt
+have_same_rank p start (Some (VarArray (Two a b))) = tt
 
 wrote_more : (e : Event) (es : List Event) (c : Cell) → Wrote es c → Wrote (e ∷ es) c
 wrote_more e es c h = (h.0, (suc h.1.0, omega (arith, h.1.1), h.1.2))
@@ -176,7 +176,7 @@ above_zero i n e =
     next_first i n h = let k = strict i n h in omega (arith, ints)
 
 module _ (p : Program) (start : Start) (m : Memory) (trace : List Event) (kept : Kept p start m) where
-  read_marked : (s : Site) → IsIndexed p start s → (z : ExtentTerms) → HaveOneRank z (shape p start s.name) → Holds (state p start m (marks trace)) (is_marked z s.name s.i s.j) → Wrote trace (cell_of (state p start m (marks trace)) s)
+  read_marked : (s : Site) → IsIndexed p start s → (z : ExtentTerms) → HaveSameRank z (shape p start s.name) → Holds (state p start m (marks trace)) (written_formula z s.name s.i s.j) → Wrote trace (cell_of (state p start m (marks trace)) s)
   unfolding hidden term_shape term_child array_shape array_child formula_shape formula_child
   read_marked s proper (OneExtent e) a h = marked trace s.name _ _ (element_one (shape p start s.name) _ h)
   read_marked s proper (TwoExtents e f) a h = marked trace s.name _ _ (element_one (shape p start s.name) _ h)
@@ -187,7 +187,7 @@ module _ (p : Program) (start : Start) (m : Memory) (trace : List Event) (kept :
       subst (λ (c : Cell). Wrote trace c) (λ t. cell s.name (value w [] (sym q.0 t)) (value w [] (sym q.1 t))) (marked trace s.name (pos 0) (pos 0) o.0)
 
   -- every cell of a name, by its shape
-  every_cell : (x : NameBytes) (z : ExtentTerms) (k : Shape) → shape p start x ≡ k → ExtentsAre p start m (marks trace) kept z k → Holds (state p start m (marks trace)) (all_marked z x) → (i j : ℤ) → is_within k i j ≡ true → marks trace x i j ≡ pos 1
+  every_cell : (x : NameBytes) (z : ExtentTerms) (k : Shape) → shape p start x ≡ k → ExtentsAre p start m (marks trace) kept z k → Holds (state p start m (marks trace)) (all_written_formula z x) → (i j : ℤ) → is_within k i j ≡ true → marks trace x i j ≡ pos 1
   unfolding hidden term_shape term_child array_shape array_child formula_shape formula_child
   every_cell x NoExtent Scalar e q h i j f =
       let u = and_both (int_eq i (pos 0)) _ f in
@@ -211,7 +211,7 @@ module _ (p : Program) (start : Start) (m : Memory) (trace : List Event) (kept :
   every_cell x (TwoExtents t r) Scalar e q h i j f = absurd q
   every_cell x (TwoExtents t r) (Vector n) e q h i j f = absurd q
 
-  used_marked : HasGoodExtents p start → (x : NameBytes) → Holds (state p start m (marks trace)) (all_marked (extent_terms p x) x) → (c : Cell) → c.name ≡ x → is_inside p start c ≡ true → Wrote trace c
+  used_marked : HasGoodExtents p start → (x : NameBytes) → Holds (state p start m (marks trace)) (all_written_formula (extent_terms p x) x) → (c : Cell) → c.name ≡ x → is_inside p start c ≡ true → Wrote trace c
   used_marked good x h c e f =
       let one_of = every_cell x (extent_terms p x) (shape p start x) refl (extents_are p start m (marks trace) kept (kind_of p x) (good x)) h c.i c.j (subst (λ (y : NameBytes). is_within (shape p start y) c.i c.j ≡ true) e f) in
       subst (λ (d : Cell). Wrote trace d) (λ t. record { name = sym e t; i = c.i; j = c.j }) (marked trace x c.i c.j one_of)
@@ -222,7 +222,7 @@ module _ (p : Program) (start : Start) (m : Memory) (trace : List Event) (kept :
   needs_by good roles s proper true kind.Read e i h at bad = false≢true (sym (subst (λ (z : Event). Bad p start roles policy.Init trace z) at bad).0 ∙ i)
   needs_by good roles s proper true kind.Write e i h at bad = subst (λ (z : Event). Bad p start roles policy.Init trace z) at.1 bad
   needs_by good roles s proper true (kind.Hand role) e i h at bad = false≢true (sym (subst (λ (z : Event). Bad p start roles policy.Init trace z) at bad).0 ∙ i)
-  needs_by good roles s proper false kind.Read e i h at bad = (subst (λ (z : Event). Bad p start roles policy.Init trace z) at bad).1 (read_marked s proper (extent_terms p s.name) (have_one_rank p start (kind_of p s.name)) h)
+  needs_by good roles s proper false kind.Read e i h at bad = (subst (λ (z : Event). Bad p start roles policy.Init trace z) at bad).1 (read_marked s proper (extent_terms p s.name) (have_same_rank p start (kind_of p s.name)) h)
   needs_by good roles s proper false kind.Write e i h at bad = subst (λ (z : Event). Bad p start roles policy.Init trace z) at.1 bad
   needs_by good roles s proper false (kind.Hand role) e i h at bad =
       let c = (subst (λ (z : Event). Bad p start roles policy.Init trace z) at bad).1 in
@@ -237,7 +237,7 @@ put_inside Scalar z q h = absurd h
 put_inside (Vector n) z q h = refl
 put_inside (Matrix n m) z q h = refl
 
-array_of : (z : ExtentTerms) (k : Shape) → HaveOneRank z k → (z ≡ NoExtent → ⊥) → IsArray k
+array_of : (z : ExtentTerms) (k : Shape) → HaveSameRank z k → (z ≡ NoExtent → ⊥) → IsArray k
 array_of NoExtent Scalar a h = absurd (h refl)
 array_of (OneExtent e) (Vector n) a h = tt
 array_of (TwoExtents e f) (Matrix n m) a h = tt
@@ -248,17 +248,17 @@ array_of (OneExtent t) (Matrix n k) a h = absurd a
 array_of (TwoExtents t r) Scalar a h = absurd a
 array_of (TwoExtents t r) (Vector n) a h = absurd a
 
-scalar_of : (k : Shape) → HaveOneRank NoExtent k → IsScalar k
+scalar_of : (k : Shape) → HaveSameRank NoExtent k → IsScalar k
 scalar_of Scalar a = tt
 scalar_of (Vector n) a = absurd a
 scalar_of (Matrix n k) a = absurd a
 
-vector_of : (e : Term) (k : Shape) → HaveOneRank (OneExtent e) k → IsArray k
+vector_of : (e : Term) (k : Shape) → HaveSameRank (OneExtent e) k → IsArray k
 vector_of e Scalar a = absurd a
 vector_of e (Vector n) a = tt
 vector_of e (Matrix n k) a = absurd a
 
-matrix_of : (e f : Term) (k : Shape) → HaveOneRank (TwoExtents e f) k → IsArray k
+matrix_of : (e f : Term) (k : Shape) → HaveSameRank (TwoExtents e f) k → IsArray k
 matrix_of e f Scalar a = absurd a
 matrix_of e f (Vector n) a = absurd a
 matrix_of e f (Matrix n k) a = tt
@@ -279,7 +279,7 @@ module _ (p : Program) (start : Start) (m : Memory) (trace : List Event) (s : Si
   array_number y true h e = no_scalar (shape p start y) _ _ (subst (λ (k : Shape). IsArray k) (shape_same y e) h)
   array_number y false h e = ap (scalar_or (shape p start y)) (told y (pos 0) (pos 0) false e)
 
-  number_by : (z : ExtentTerms) → HaveOneRank z (shape p start s.name) → (y : NameBytes) (t : Bool) → bytes_eq s.name y ≡ t →
+  number_by : (z : ExtentTerms) → HaveSameRank z (shape p start s.name) → (y : NameBytes) (t : Bool) → bytes_eq s.name y ≡ t →
       (changed (state p start m (marks trace)) (marking z s.name s.i s.j ∷ [])).number (Init y) ≡ state_number p start m (marks (trace ++ (Write (cell_of (state p start m (marks trace)) s) n ∷ []))) (Init y)
   unfolding hidden term_shape term_child array_shape array_child formula_shape formula_child
   number_by (OneExtent t) h y b e = array_number y b (vector_of t (shape p start s.name) h) e
@@ -305,7 +305,7 @@ module _ (p : Program) (start : Start) (m : Memory) (trace : List Event) (s : Si
       ∙ put_inside (shape p start y) _ _ (subst (λ (k : Shape). IsArray k) (shape_same y e) h)) ∙ ap (element_or (shape p start y)) (told y i j true e)) d
   array_table y false h e = λ d i j. element_or (shape p start y) (told y i j false e d)
 
-  table_by : (z : ExtentTerms) → HaveOneRank z (shape p start s.name) → (y : NameBytes) (t : Bool) → bytes_eq s.name y ≡ t →
+  table_by : (z : ExtentTerms) → HaveSameRank z (shape p start s.name) → (y : NameBytes) (t : Bool) → bytes_eq s.name y ≡ t →
       (changed (state p start m (marks trace)) (marking z s.name s.i s.j ∷ [])).table (Init y) ≡ state_table p start m (marks (trace ++ (Write (cell_of (state p start m (marks trace)) s) n ∷ []))) (Init y)
   unfolding hidden term_shape term_child array_shape array_child formula_shape formula_child
   table_by NoExtent h y true e = λ d i j. no_array (shape p start y) (marks trace y i j) (marks (trace ++ (Write (cell_of (state p start m (marks trace)) s) n ∷ [])) y i j) (subst (λ (k : Shape). IsScalar k) (shape_same y e) (scalar_of (shape p start s.name) h)) d
@@ -314,9 +314,9 @@ module _ (p : Program) (start : Start) (m : Memory) (trace : List Event) (s : Si
   table_by (TwoExtents t r) h y b e = ap (λ c. table_of (state p start m (marks trace)) [] (if c then array.Put (array.Sym (Init s.name)) s.i s.j mark else array.Sym (Init y))) e ∙ array_table y b (matrix_of t r (shape p start s.name) h) e
 
 effect_of_write : (p : Program) (start : Start) (m : Memory) (trace : List Event) (s : Site) (n : ℤ) → IsIndexed p start s →
-    Foretells (state p start m (marks trace)) (init_effect_of kind.Write p s) (state p start m (marks (trace ++ (Write (cell_of (state p start m (marks trace)) s) n ∷ []))))
+    TurnsShadowInto (state p start m (marks trace)) (init_effect_of kind.Write p s) (state p start m (marks (trace ++ (Write (cell_of (state p start m (marks trace)) s) n ∷ []))))
 effect_of_write p start m trace s n indexed =
-    let h = have_one_rank p start (kind_of p s.name) in
+    let h = have_same_rank p start (kind_of p s.name) in
     record {
       numbers = λ y. number_by p start m trace s n indexed (extent_terms p s.name) h y (bytes_eq s.name y) refl;
       tables = λ y. table_by p start m trace s n indexed (extent_terms p s.name) h y (bytes_eq s.name y) refl;
@@ -325,7 +325,7 @@ effect_of_write p start m trace s n indexed =
 pub effects : (p : Program) (start : Start) → LawEffect p start marks (init_effect p)
 effects p start = record {
   write = λ m trace s n k indexed.
-      subst (λ (at : SiteKind). Foretells (state p start m (marks trace)) (init_effect_of at p s) (state p start m (marks (trace ++ (Write (cell_of (state p start m (marks trace)) s) n ∷ [])))))
+      subst (λ (at : SiteKind). TurnsShadowInto (state p start m (marks trace)) (init_effect_of at p s) (state p start m (marks (trace ++ (Write (cell_of (state p start m (marks trace)) s) n ∷ [])))))
       (sym k) (effect_of_write p start m trace s n indexed);
   read = λ trace c d x i j. marks_read trace c x i j d;
   hand = λ trace y role numbers d x i j. marks_hand trace y role numbers x i j d;

@@ -1,6 +1,6 @@
 -- The laws of a policy. Its meaning is: what the shadow variables are after a trace, and which event is bad after which trace.
 -- Its formulas are: the need of a site, the effect of a write on the shadow variables, and what is known of a written scalar.
-use Rattle.std.specs.Prelude.{◌≡◌, ◌≢◌, List, [], ◌∷◌, ◌++◌, Option, Some, None, ℤ, pos, true, All}
+use Rattle.std.specs.Prelude.{◌≡◌, ◌≢◌, List, [], ◌∷◌, ◌++◌, Option, Some, None, ℤ, All}
 use Rattle.ac_tree.specs.declared.program.Program.{Program}
 use Rattle.ac_run.specs.declared.event.Cell.{Cell}
 use Rattle.ac_run.specs.declared.event.Event.{Event}
@@ -73,7 +73,7 @@ pub record LawForm (need : Site → Option Formula) (effect : Site → List Chan
   pub knows : (x : NameBytes) → IsPlainIf (known x)
 
 -- under the changes the shadow symbols mean what they mean in the other state
-pub record Foretells (w : Valuation) (changes : List Change) (after : Valuation) : Type 0 where
+pub record TurnsShadowInto (w : Valuation) (changes : List Change) (after : Valuation) : Type 0 where
   pub numbers : (x : NameBytes) → (changed w changes).number (Init x) ≡ after.number (Init x)
   pub tables : (x : NameBytes) → (changed w changes).table (Init x) ≡ after.table (Init x)
 
@@ -81,7 +81,7 @@ module _ (p : Program) (start : Start) where
   -- Effect: a write turns the shadow into the one that its changes give; reads and uses leave it.
   pub record LawEffect (shadow : List Event → Shadow) (effect : Site → List Change) : Type 0 where
     pub write : (m : Memory) (trace : List Event) (s : Site) (n : ℤ) → s.kind ≡ kind.Write → IsIndexed p start s →
-        Foretells (state p start m (shadow trace)) (effect s) (state p start m (shadow (trace ++ Write (cell_of (state p start m (shadow trace)) s) n ∷ [])))
+        TurnsShadowInto (state p start m (shadow trace)) (effect s) (state p start m (shadow (trace ++ Write (cell_of (state p start m (shadow trace)) s) n ∷ [])))
     pub read : (trace : List Event) (c : Cell) → shadow (trace ++ Read c ∷ []) ≡ shadow trace
     pub hand : (trace : List Event) (x role : NameBytes) (numbers : List ℤ) → shadow (trace ++ Hand x role numbers ∷ []) ≡ shadow trace
 

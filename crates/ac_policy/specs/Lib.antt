@@ -10,8 +10,8 @@ pub mod AnyPolicy
 pub mod Plain
 pub mod Laws
 pub mod GoodExtents
-pub mod ExtentsHold
-pub mod FitsGives
+pub mod ExtentValues
+pub mod FittingStart
 pub mod PlainLaws
 pub mod InitLaws
 pub mod BoundsLaws

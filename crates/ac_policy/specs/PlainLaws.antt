@@ -1,5 +1,5 @@
 -- What the policies give is plain: the terms of extents, needs, effects and known facts.
-use Rattle.std.proofs.Common.{◌≡◌, ℕ, ◌^◌, ◌/◌, ◌%◌, ◌<◌, nat_lt, ℤ, pos, Bool, true, false, Option, Some, None, refl, arith, if◌then◌else◌}
+use Rattle.std.proofs.Common.{ℕ, ◌^◌, ◌/◌, ◌%◌, ◌<◌, nat_lt, ℤ, pos, Bool, true, false, Option, Some, None, refl, arith, if◌then◌else◌}
 use Rattle.ac_tree.specs.declared.program.Extent.{Extent}
 use Rattle.ac_tree.specs.declared.program.Extent.TheVariants.{Lit, Named}
 use Rattle.ac_tree.specs.declared.program.Extents.TheVariants.{One, Two}
@@ -7,17 +7,17 @@ use Rattle.ac_tree.specs.declared.program.ItemKind.{ItemKind}
 use Rattle.ac_tree.specs.declared.program.ItemKind.TheVariants.{Const, InputScalar, InputArray, VarScalar, VarArray}
 use Rattle.ac_tree.specs.declared.program.Program.{Program}
 use Rattle.ac_run.specs.Declarations.{NameBytes, constant_of}
-use Rattle.ac_logic.specs.declared.formula.Sym.TheVariants.{Value, Init}
+use Rattle.ac_logic.specs.declared.formula.Sym.TheVariants.{Value}
 use Rattle.ac_logic.specs.declared.formula.Term.{Term, Num}
 use Rattle.ac_logic.specs.Bounds.{IsTermClosedIn}
 use Rattle.ac_logic.specs.Patterns.{Scalar, Sum}
 use Rattle.ac_policy.specs.declared.extents.ExtentTerms.{ExtentTerms}
 use Rattle.ac_policy.specs.declared.extents.ExtentTerms.TheVariants.{NoExtent, OneExtent, TwoExtents}
 use Rattle.ac_policy.specs.Extents.{extent_term, extent_terms_in, indexes_within}
-use Rattle.ac_policy.specs.Init.{is_marked, all_marked, marking}
+use Rattle.ac_policy.specs.Init.{written_formula, all_written_formula, marking}
 use Rattle.ac_policy.specs.Laws.{IsPlainIf, IsShadowChange}
 use Rattle.ac_policy.specs.Plain.{HasNoFreshInTerm, IsPlain, IsPlainTerm}
-use Rattle.ac_policy.specs.Symm.{is_symmetric}
+use Rattle.ac_policy.specs.Symm.{symmetric_formula}
 use Rattle.ac_policy.specs.Terms.{literal_term, constant_or, scalar_term}
 use Rattle.ac_policy.specs.Opened.{hidden, formula_shape, formula_child, term_shape, term_child, array_shape, array_child}
 
@@ -69,13 +69,13 @@ inner_of_two = omega arith
 outer_of_two : 1 < 2
 outer_of_two = omega arith
 
-pub marked_plain : (z : ExtentTerms) (x : NameBytes) (i j : Term) → IsPlainTerm i → IsPlainTerm j → IsPlain (is_marked z x i j)
+pub marked_plain : (z : ExtentTerms) (x : NameBytes) (i j : Term) → IsPlainTerm i → IsPlainTerm j → IsPlain (written_formula z x i j)
 unfolding hidden formula_shape formula_child term_shape term_child array_shape array_child
 marked_plain NoExtent x i j h k = record { closed = (tt, tt); unlabelled = refl; no_fresh = (tt, tt) }
 marked_plain (OneExtent e) x i j h k = record { closed = ((tt, h.closed, k.closed), tt); unlabelled = refl; no_fresh = ((tt, h.no_fresh, k.no_fresh), tt) }
 marked_plain (TwoExtents e f) x i j h k = record { closed = ((tt, h.closed, k.closed), tt); unlabelled = refl; no_fresh = ((tt, h.no_fresh, k.no_fresh), tt) }
 
-pub all_marked_plain : (z : ExtentTerms) (x : NameBytes) → AreGroundExtents z → IsPlain (all_marked z x)
+pub all_marked_plain : (z : ExtentTerms) (x : NameBytes) → AreGroundExtents z → IsPlain (all_written_formula z x)
 unfolding hidden formula_shape formula_child term_shape term_child array_shape array_child
 all_marked_plain NoExtent x g = record { closed = (tt, tt); unlabelled = refl; no_fresh = (tt, tt) }
 all_marked_plain (OneExtent e) x g = record {
@@ -103,7 +103,7 @@ within_plain (TwoExtents e f) i j g h k = record {
   no_fresh = (((tt, h.no_fresh), ((h.no_fresh, tt), g.0.1)), ((tt, k.no_fresh), ((k.no_fresh, tt), g.1.1)));
 }
 
-pub symmetric_plain : (z : ExtentTerms) (x : NameBytes) → AreGroundExtents z → IsPlain (is_symmetric z x)
+pub symmetric_plain : (z : ExtentTerms) (x : NameBytes) → AreGroundExtents z → IsPlain (symmetric_formula z x)
 unfolding hidden formula_shape formula_child term_shape term_child array_shape array_child
 symmetric_plain NoExtent x g = record { closed = tt; unlabelled = refl; no_fresh = tt }
 symmetric_plain (OneExtent e) x g = record { closed = tt; unlabelled = refl; no_fresh = tt }

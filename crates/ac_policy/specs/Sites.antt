@@ -2,7 +2,8 @@
 -- A read stands before those inside its indexes. The variable of a `for` has no site.
 -- The openers `hidden`, `expr_shape`, `expr_child` and the like let a definition look at the children of a tree. A
 -- statement with blocks is matched with its blocks as rows; the blanks before them are their lengths.
-use Rattle.std.specs.Prelude.{List, [], ◌∷◌, ◌++◌, Option, Some, None, ℤ}
+use Rattle.std.specs.Prelude.{◌<◌, List, [], ◌∷◌, ◌++◌, Option, Some, None, ℤ}
+use Rattle.std.specs.List.{AllByRecursion}
 use Rattle.ac_tree.specs.declared.node.NodeId.{NodeId}
 use Rattle.ac_tree.specs.declared.program.CondKind.{CondKind}
 use Rattle.ac_tree.specs.declared.program.CondKind.TheVariants.{True, False, Rel}
@@ -83,3 +84,8 @@ module _ (p : Program) where
 
 abbrev pub sites_of : Program → List Site
 sites_of p = list_sites p p.body
+
+-- the numbers of their nodes rise, so that no two sites have one node
+abbrev pub AreRising : List Site → Type 0
+AreRising [] = Unit {0}
+AreRising (s ∷ rest) = AllByRecursion (λ t. s.node.0 < t.node.0) rest × AreRising rest

@@ -20,16 +20,16 @@ abbrev pub is_listed : List NameBytes → NameBytes → Bool
 is_listed roles role = list_any (λ r. bytes_eq r role) roles
 
 -- the entry at the indexes is the mirrored one
-abbrev pub is_mirrored : NameBytes → Formula
+abbrev pub mirrored_formula : NameBytes → Formula
 unfolding hidden term_shape term_child array_shape array_child formula_shape formula_child
-is_mirrored x = Eq (ReadOf (Array (Value x)) (Bound 1) (Bound 0)) (ReadOf (Array (Value x)) (Bound 0) (Bound 1))
+mirrored_formula x = Eq (ReadOf (Array (Value x)) (Bound 1) (Bound 0)) (ReadOf (Array (Value x)) (Bound 0) (Bound 1))
 
 -- two extents that are equal, and every entry is the mirrored one
-abbrev pub is_symmetric : ExtentTerms → NameBytes → Formula
+abbrev pub symmetric_formula : ExtentTerms → NameBytes → Formula
 unfolding hidden term_shape term_child formula_shape formula_child
-is_symmetric NoExtent x = False
-is_symmetric (OneExtent e) x = False
-is_symmetric (TwoExtents e f) x = Conjunction (Eq e f) (for_all_cells (TwoExtents e f) (is_mirrored x))
+symmetric_formula NoExtent x = False
+symmetric_formula (OneExtent e) x = False
+symmetric_formula (TwoExtents e f) x = Conjunction (Eq e f) (for_all_cells (TwoExtents e f) (mirrored_formula x))
 
 abbrev pub when : Bool → Formula → Option Formula
 when true f = Some f
@@ -38,7 +38,7 @@ when false f = None
 abbrev pub symm_need_of : List NameBytes → SiteKind → Program → Site → Option Formula
 symm_need_of roles kind.Read p s = None
 symm_need_of roles kind.Write p s = None
-symm_need_of roles (kind.Hand role) p s = when (is_listed roles role) (is_symmetric (extent_terms p s.name) s.name)
+symm_need_of roles (kind.Hand role) p s = when (is_listed roles role) (symmetric_formula (extent_terms p s.name) s.name)
 
 abbrev pub symm_need : List NameBytes → Program → Site → Option Formula
 symm_need roles p s = symm_need_of roles s.kind p s

@@ -1,34 +1,30 @@
 -- The laws of symm.
-use Rattle.std.proofs.Common.{◌≡◌, ◌≢◌, ◌⊎◌, ℕ, zero, suc, ◌+◌, ◌*◌, ◌<◌, ℤ, pos, nat_abs, ◌+ℤ◌, ◌≤ℤ◌, int_le, int_lt, List, [], ◌∷◌, ◌++◌, Bool, true, false, ◌&&◌, ◌||◌, Option, Some, None, refl, sym, ◌∙◌, ap, subst, if◌then◌else◌, rules, bytes_eq, Contains, length, arith, inl, inr, slice_get, slice_index_or, get_or}
-use Rattle.std.proofs.lemmas.Bool.{false≢true, ltb-true}
+use Rattle.std.proofs.Common.{◌≡◌, ℕ, zero, suc, ◌+◌, ◌*◌, ◌<◌, ℤ, pos, nat_abs, ◌+ℤ◌, ◌≤ℤ◌, List, [], ◌∷◌, Bool, true, false, ◌&&◌, ◌||◌, Option, Some, None, refl, sym, ◌∙◌, ap, subst, if◌then◌else◌, bytes_eq, Contains, length, arith, inl, inr, slice_get, get_or}
 use Rattle.std.proofs.lemmas.Int.{ints}
 use Rattle.std.proofs.lemmas.Option.{slice_get-get_or}
 use Rattle.std.proofs.lemmas.Slice.Eq.{bytes_eq-Decides}
-use Rattle.std.specs.Ordering.{int_eq}
 use Rattle.ac_tree.specs.declared.program.Program.{Program}
 use Rattle.ac_tree.specs.declared.program.ItemKind.{ItemKind}
 use Rattle.ac_tree.specs.declared.program.ItemKind.TheVariants.{Const, InputScalar, InputArray, VarScalar, VarArray}
 use Rattle.ac_tree.specs.declared.policy.PolicyName.TheVariants as policy
 use Rattle.ac_run.specs.declared.start.Start.{Start}
-use Rattle.ac_run.specs.declared.event.Cell.{Cell}
 use Rattle.ac_run.specs.declared.event.Event.{Event}
-use Rattle.ac_run.specs.declared.event.Event.TheVariants.{Read, Write, Hand}
-use Rattle.ac_run.specs.Declarations.{NameBytes, Shape, Scalar, Vector, Matrix, numbers_in, kind_of, constant_of, constant_in, shape, shape_in}
+use Rattle.ac_run.specs.Declarations.{NameBytes, Shape, Scalar, Vector, Matrix, numbers_in, kind_of, constant_in, shape, shape_in}
 use Rattle.ac_run.specs.Start.{count}
-use Rattle.ac_run.specs.Memory.{Memory, is_inside, is_within, is_below, number_at, contents, constant_or, place_in}
+use Rattle.ac_run.specs.Memory.{Memory, is_within, is_below, contents, constant_or, place_in}
 use Rattle.ac_run.specs.Violation.{Bad, IsAsymmetric}
-use Rattle.ac_logic.specs.Meaning.{Valuation, value, Holds}
+use Rattle.ac_logic.specs.Meaning.{Valuation, Holds}
 use Rattle.ac_policy.specs.declared.site.Site.{Site}
 use Rattle.ac_policy.specs.declared.site.SiteKind.{SiteKind}
 use Rattle.ac_policy.specs.declared.site.SiteKind.TheVariants as kind
-use Rattle.ac_policy.specs.State.{Shadow, IsScalar, IsArray, Kept, cell, state, element, element_or}
+use Rattle.ac_policy.specs.State.{IsArray, Kept, state, element, element_or}
 use Rattle.ac_policy.specs.Laws.{LawForm, LawFor, LawNeed, IsPlainIf, EventOf, HoldsIf}
 use Rattle.ac_policy.specs.declared.extents.ExtentTerms.{ExtentTerms}
 use Rattle.ac_policy.specs.declared.extents.ExtentTerms.TheVariants.{NoExtent, OneExtent, TwoExtents}
 use Rattle.ac_policy.specs.Extents.{extent_terms}
 use Rattle.ac_policy.specs.GoodExtents.{HasSizes}
-use Rattle.ac_policy.specs.ExtentsHold.{ExtentsAre, extents_are}
-use Rattle.ac_policy.specs.Symm.{is_listed, is_symmetric, when, symm_need_of, symm_need}
+use Rattle.ac_policy.specs.ExtentValues.{ExtentsAre, extents_are}
+use Rattle.ac_policy.specs.Symm.{is_listed, symmetric_formula, when, symm_need_of, symm_need}
 use Rattle.ac_policy.specs.Bounds.{no_shadow, no_effect, nothing_known}
 use Rattle.ac_policy.specs.BoundsLaws.{below}
 use Rattle.ac_policy.specs.PlainLaws.{extents_ground, symmetric_plain}
@@ -37,7 +33,7 @@ use Rattle.ac_policy.specs.Opened.{hidden, term_shape, term_child, array_shape, 
 pub form : (roles : List NameBytes) (p : Program) → LawForm (symm_need roles p) (no_effect p) nothing_known
 form roles p = record { changes = λ s h. tt; different = λ s. tt; needs = λ s h. by s s.kind; knows = λ x. tt }
   where
-    listed_plain : (s : Site) (b : Bool) → IsPlainIf (when b (is_symmetric (extent_terms p s.name) s.name))
+    listed_plain : (s : Site) (b : Bool) → IsPlainIf (when b (symmetric_formula (extent_terms p s.name) s.name))
     listed_plain s true = symmetric_plain (extent_terms p s.name) s.name (extents_ground p (kind_of p s.name))
     listed_plain s false = tt
 
@@ -104,7 +100,7 @@ module _ (p : Program) (start : Start) (m : Memory) (kept : Kept p start m) wher
   square : (x : NameBytes) (n k : ℕ) → n ≡ k → shape p start x ≡ Matrix n k → shape p start x ≡ Matrix n n
   square x n k q e = e ∙ ap (Matrix n) (sym q)
 
-  symmetric : (x : NameBytes) (z : ExtentTerms) (k : Shape) → shape p start x ≡ k → ExtentsAre p start m (no_shadow []) kept z k → length (numbers_in m x) ≡ count (shape p start x) → Holds w (is_symmetric z x) → ¬ IsAsymmetric k (numbers_in m x)
+  symmetric : (x : NameBytes) (z : ExtentTerms) (k : Shape) → shape p start x ≡ k → ExtentsAre p start m (no_shadow []) kept z k → length (numbers_in m x) ≡ count (shape p start x) → Holds w (symmetric_formula z x) → ¬ IsAsymmetric k (numbers_in m x)
   unfolding hidden term_shape term_child array_shape array_child formula_shape formula_child
   symmetric x NoExtent k e q len h bad = h
   symmetric x (OneExtent t) k e q len h bad = h
@@ -121,7 +117,7 @@ module _ (p : Program) (start : Start) (m : Memory) (kept : Kept p start m) wher
       ) in
       differ (mirrored x n sq (len ∙ ap count sq) i j li lj two)
 
-  no_array : (x : NameBytes) (z : ExtentTerms) (k : Shape) → ExtentsAre p start m (no_shadow []) kept z k → Holds w (is_symmetric z x) → IsArray k
+  no_array : (x : NameBytes) (z : ExtentTerms) (k : Shape) → ExtentsAre p start m (no_shadow []) kept z k → Holds w (symmetric_formula z x) → IsArray k
   unfolding hidden term_shape term_child array_shape array_child formula_shape formula_child
   no_array x NoExtent k q h = absurd h
   no_array x (OneExtent t) k q h = absurd h
@@ -129,9 +125,9 @@ module _ (p : Program) (start : Start) (m : Memory) (kept : Kept p start m) wher
   no_array x (TwoExtents t r) (Vector n) q h = absurd q
   no_array x (TwoExtents t r) (Matrix n k) q h = tt
 
-  handed : (good : HasSizes p start) (roles : List NameBytes) (x role : NameBytes) → HoldsIf w (when (is_listed roles role) (is_symmetric (extent_terms p x) x)) → Contains roles role → ¬ IsAsymmetric (shape p start x) (contents p start m x)
+  handed : (good : HasSizes p start) (roles : List NameBytes) (x role : NameBytes) → HoldsIf w (when (is_listed roles role) (symmetric_formula (extent_terms p x) x)) → Contains roles role → ¬ IsAsymmetric (shape p start x) (contents p start m x)
   handed good roles x role h c bad =
-      let f : Holds w (is_symmetric (extent_terms p x) x) = subst (λ (b : Bool). HoldsIf w (when b (is_symmetric (extent_terms p x) x))) (listed roles role c) h in
+      let f : Holds w (symmetric_formula (extent_terms p x) x) = subst (λ (b : Bool). HoldsIf w (when b (symmetric_formula (extent_terms p x) x))) (listed roles role c) h in
       let q = extents_are p start m (no_shadow []) kept (kind_of p x) (good.extents x) in
       let a = no_array x (extent_terms p x) (shape p start x) q f in
       symmetric x (extent_terms p x) (shape p start x) refl q (kept.sizes x ∙ good.all_cells x a) f (subst (λ (ns : List ℤ). IsAsymmetric (shape p start x) ns) (plain_contents p start m x a) bad)

@@ -2,7 +2,7 @@
 ghost use Rattle.std.specs.Prelude.{◌≡◌, IfOk};
 ghost use Rattle.std.specs.Option.{option_copied};
 ghost use Rattle.ac_run.specs.Declarations.{kind_in, kind_of as declared_kind};
-ghost use Rattle.ac_policy.specs.Extents.{extent_term as term_of_extent, terms_of_extents, extent_terms_in, extent_terms as terms_in, index_within as is_within, indexes_within as are_within, cell_term as term_of_cell, row_index, column_index, for_all_cells as everywhere};
+ghost use Rattle.ac_policy.specs.Extents.{extent_term as term_of_extent, terms_of_extents, extent_terms_in, extent_terms as terms_in, index_within as is_within, indexes_within as are_within, cell_term as term_of_cell, row_index as row_of, column_index as column_of, for_all_cells as everywhere};
 
 use crate::terms::{literal_term, scalar_term, zero};
 use ac_logic::{ArrayTerm, Formula, Sym, Term};
@@ -122,8 +122,8 @@ pub fn cell_term(
 }
 
 /// The first index of every cell.
-pub fn row(alloc: Global, extents: &ExtentTerms) -> Result<Shared<Term>, AllocError>
-    ensures { IfOk result (λ t. t ≡ row_index extents.now) }
+pub fn row_index(alloc: Global, extents: &ExtentTerms) -> Result<Shared<Term>, AllocError>
+    ensures { IfOk result (λ t. t ≡ row_of extents.now) }
 {
     match extents {
         ExtentTerms::NoExtent => zero(alloc),
@@ -133,8 +133,8 @@ pub fn row(alloc: Global, extents: &ExtentTerms) -> Result<Shared<Term>, AllocEr
 }
 
 /// The second index of every cell.
-pub fn column(alloc: Global, extents: &ExtentTerms) -> Result<Shared<Term>, AllocError>
-    ensures { IfOk result (λ t. t ≡ column_index extents.now) }
+pub fn column_index(alloc: Global, extents: &ExtentTerms) -> Result<Shared<Term>, AllocError>
+    ensures { IfOk result (λ t. t ≡ column_of extents.now) }
 {
     match extents {
         ExtentTerms::NoExtent => zero(alloc),

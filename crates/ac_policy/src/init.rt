@@ -1,9 +1,11 @@
 //! The formulas of init: the shadow variable of a cell is 1 where the cell was written.
 ghost use Rattle.std.specs.Prelude.{◌≡◌, IfOk, Some};
 ghost use Rattle.ac_run.specs.Declarations.{is_input as is_input_name};
-ghost use Rattle.ac_policy.specs.Init.{init_need, init_effect, init_known, is_marked, all_marked, marking as marking_of};
+ghost use Rattle.ac_policy.specs.Init.{init_need, init_effect, init_known, written_formula, all_written_formula, marking as marking_of};
 
-use crate::extents::{ExtentTerms, cell_term, column, extent_terms, for_all_cells, row};
+use crate::extents::{
+    ExtentTerms, cell_term, column_index, extent_terms, for_all_cells, row_index,
+};
 use crate::site::{Site, SiteKind};
 use ac_logic::{ArrayTerm, Change, Formula, Sym, Term};
 use ac_shared::Shared;
@@ -28,7 +30,7 @@ fn marked(
     i: &Shared<Term>,
     j: &Shared<Term>,
 ) -> Result<Shared<Formula>, AllocError>
-    ensures { IfOk result (λ f. f ≡ is_marked extents.now name.now i.now j.now) }
+    ensures { IfOk result (λ f. f ≡ written_formula extents.now name.now i.now j.now) }
 {
     let value = cell_term(alloc, extents, Sym::Init(name.clone()?), i, j)?;
     let mark = Shared::new(alloc, Term::Num(1))?;
@@ -41,10 +43,10 @@ fn marked_everywhere(
     extents: &ExtentTerms,
     name: &Name,
 ) -> Result<Shared<Formula>, AllocError>
-    ensures { IfOk result (λ f. f ≡ all_marked extents.now name.now) }
+    ensures { IfOk result (λ f. f ≡ all_written_formula extents.now name.now) }
 {
-    let i = row(alloc, extents)?;
-    let j = column(alloc, extents)?;
+    let i = row_index(alloc, extents)?;
+    let j = column_index(alloc, extents)?;
     let body = marked(alloc, extents, name, &i, &j)?;
     for_all_cells(alloc, extents, body)
 }

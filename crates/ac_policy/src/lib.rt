@@ -4,7 +4,7 @@
 //! does to its shadow variables, and what it knows of a written scalar. The trait `Policy` has beside these the meaning of a
 //! policy and the laws that join both, so that a proof over every policy needs nothing else. `specs/` says, in this order,
 //! the terms of expressions, the sites of a program, the valuation of a state, formulas on the cells of an array, the three
-//! policies, and the laws.
+//! policies, and the laws. Its files `GoodExtents`, `ExtentValues`, `FittingStart` and `..Laws` hold their proofs.
 #![tactic(auto, unfolding(crate::specs::Opened::formula_shape, crate::specs::Opened::formula_child, crate::specs::Opened::term_shape, crate::specs::Opened::term_child, crate::specs::Opened::array_shape, crate::specs::Opened::array_child, crate::specs::Opened::expr_shape, crate::specs::Opened::expr_child, crate::specs::Opened::cond_shape, crate::specs::Opened::cond_child, crate::specs::Opened::stmt_shape, crate::specs::Opened::stmt_child, crate::specs::Opened::hidden))]
 
 mod any_policy;
@@ -19,8 +19,10 @@ mod symm;
 mod terms;
 
 pub use any_policy::AnyPolicy;
-pub use extents::{ExtentTerms, extent_terms, for_all_cells, indexes_within};
-pub use laws::sites_meet_the_laws;
+pub use extents::{
+    ExtentTerms, cell_term, column_index, extent_terms, for_all_cells, indexes_within, row_index,
+};
+pub use laws::{shadow_changes_leave_values, sites_meet_the_laws, sites_stand_in_order};
 pub use policy::Policy;
 pub use site::{Site, SiteKind};
 pub use site_list::{scalar_write, sites};

@@ -1,6 +1,6 @@
 //! The formulas of symm.
 ghost use Rattle.std.specs.Prelude.{◌≡◌, IfOk};
-ghost use Rattle.ac_policy.specs.Symm.{is_listed as is_listed_role, is_mirrored, is_symmetric, symm_need};
+ghost use Rattle.ac_policy.specs.Symm.{is_listed as is_listed_role, mirrored_formula, symmetric_formula, symm_need};
 
 use crate::extents::{ExtentTerms, extent_terms, for_all_cells};
 use crate::site::{Site, SiteKind};
@@ -17,7 +17,7 @@ fn is_listed(roles: &[Name], role: &Name) -> bool
 
 /// The entry at the indexes is the mirrored one.
 fn mirrored(alloc: Global, name: &Name) -> Result<Shared<Formula>, AllocError>
-    ensures { IfOk result (λ f. f ≡ is_mirrored name.now) }
+    ensures { IfOk result (λ f. f ≡ mirrored_formula name.now) }
 {
     let array = Shared::new(alloc, ArrayTerm::Sym(Sym::Value(name.clone()?)))?;
     let row = Shared::new(alloc, Term::Bound(1))?;
@@ -34,7 +34,7 @@ fn symmetric(
     extents: &ExtentTerms,
     name: &Name,
 ) -> Result<Shared<Formula>, AllocError>
-    ensures { IfOk result (λ f. f ≡ is_symmetric extents.now name.now) }
+    ensures { IfOk result (λ f. f ≡ symmetric_formula extents.now name.now) }
 {
     match extents {
         ExtentTerms::TwoExtents(rows, columns) => {

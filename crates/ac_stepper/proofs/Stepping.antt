@@ -15,15 +15,15 @@ use Rattle.ac_stepper.specs.declared.change.Change.{Change}
 use Rattle.ac_stepper.specs.Running.{Running}
 use Rattle.ac_stepper.specs.Tasks.{rest_of}
 use Rattle.ac_stepper.specs.Numbers.{numbers_of_task, numbers_of_first, numbers_of_step}
-use Rattle.ac_stepper.specs.Steps.{went, ending, Steps}
+use Rattle.ac_stepper.specs.Steps.{went_or_ended, ending, Steps}
 use Rattle.ac_stepper.specs.Changes.{changed, Plans}
 
 -- how a step ends that had a task
 pub halts : (before after : Config) → after.has_halted ≡ true → Halted ≡ ending before after
-halts before after is = sym (ap (λ (b : Bool). if b then Halted else went before.tasks) is)
+halts before after is = sym (ap (λ (b : Bool). if b then Halted else went_or_ended before.tasks) is)
 
 pub goes_on : (before after : Config) (t : Task) (rest : List Task) → before.tasks ≡ t ∷ rest → after.has_halted ≡ false → Went ≡ ending before after
-goes_on before after t rest next is = sym (ap (λ (b : Bool). if b then Halted else went before.tasks) is ∙ ap went next)
+goes_on before after t rest next is = sym (ap (λ (b : Bool). if b then Halted else went_or_ended before.tasks) is ∙ ap went_or_ended next)
 
 module _ (p : Program) (start : Start) (c : Config) where
   pub halted_stays : c.has_halted ≡ true → step p start c ≡ c
@@ -83,7 +83,7 @@ halted_steps run is = (
 pub ended_steps : (run : Running) → run.now.has_halted ≡ false → run.now.tasks ≡ [] → Steps run (Ok Ended) run
 ended_steps run is none = (
   ap (λ (c : Config). at_config run c) (sym (ended_stays run.program run.start run.now none)),
-  sym (ap (λ (b : Bool). if b then Halted else went run.now.tasks) is ∙ ap went none),
+  sym (ap (λ (b : Bool). if b then Halted else went_or_ended run.now.tasks) is ∙ ap went_or_ended none),
   subst AllFit (sym (ended_makes_none run.program run.start run.now none)) (All-nil (FitsSigned w128)),
 )
 
@@ -100,7 +100,7 @@ module _ (before : Running) (t : Task) (going_on : before.now.has_halted ≡ fal
       IsMade before change res after → Steps before res after
   made_steps after change (Ok stepped) plan made = (
     made.0 ∙ ap (λ (c : Config). at_config before c) (change_is_step before.program before.start before.now t going_on next change plan),
-    made.1 ∙ ap (λ (s : Stepped). if after.now.has_halted then Halted else s) (sym (ap went next)),
+    made.1 ∙ ap (λ (s : Stepped). if after.now.has_halted then Halted else s) (sym (ap went_or_ended next)),
     numbers_fit before.program before.start before.now t going_on next change plan,
   )
   made_steps after change (Err fault.OutOfMemory) plan made = made.1

@@ -10,21 +10,22 @@ use Rattle.ac_stepper.specs.Numbers.{numbers_of_step}
 use Rattle.ac_stepper.specs.Running.{Running}
 
 -- 128 bits hold all numbers of the next step
-abbrev pub Fits : Running → Type 0
-Fits run = AllFit (numbers_of_step run.program run.start run.now)
+abbrev pub HasFittingNumbers : Running → Type 0
+HasFittingNumbers run = AllFit (numbers_of_step run.program run.start run.now)
 
-abbrev pub went : List Task → Stepped
-went [] = Ended
-went (t ∷ ts) = Went
+-- how a step ends by the tasks before it, where it halts nothing
+abbrev pub went_or_ended : List Task → Stepped
+went_or_ended [] = Ended
+went_or_ended (t ∷ ts) = Went
 
 -- The run halted in this step or before; or it hasn't halted and no task was left; or it went on.
 abbrev pub ending : Config → Config → Stepped
-ending before after = if after.has_halted then Halted else went before.tasks
+ending before after = if after.has_halted then Halted else went_or_ended before.tasks
 
 -- A call of `step` makes the defined step, says how it ended, and then 128 bits hold all its numbers. Or it leaves the run as
 -- it was, and where the cause is a number, 128 bits don't hold all of them.
 abbrev pub Steps : Running → Result Stepped StepFault → Running → Type 0
 Steps before (Ok stepped) after =
-    (after ≡ record before { now = step before.program before.start before.now }) × (stepped ≡ ending before.now after.now) × Fits before
-Steps before (Err Wide) after = (after ≡ before) × ¬ Fits before
+    (after ≡ record before { now = step before.program before.start before.now }) × (stepped ≡ ending before.now after.now) × HasFittingNumbers before
+Steps before (Err Wide) after = (after ≡ before) × ¬ HasFittingNumbers before
 Steps before (Err OutOfMemory) after = after ≡ before

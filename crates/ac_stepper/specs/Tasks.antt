@@ -1,4 +1,4 @@
--- The tasks that the code keeps, the next one at the end.
+-- The tasks that the code keeps, the next one at the end. Clauses see a run by its list of tasks alone, which this file gives.
 use Rattle.std.specs.Prelude.{List, [], ◌∷◌, ◌++◌, map, Option, Some, None}
 use Rattle.ac_run.specs.Run.{Task, Do, Compare, Advance}
 use Rattle.ac_stepper.specs.declared.pending.Pending.{Pending}

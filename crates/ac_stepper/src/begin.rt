@@ -15,9 +15,11 @@ use std::alloc::{AllocError, Global};
 
 /// Why a run doesn't begin: the first entry of the start that is wrong or missing, or the first that is too many; or
 /// memory ran out.
-#[derive(Clone, Copy)]
+#[derive(Debug, Drop, thiserror::Error)]
 pub enum StartFault {
+    #[error("the start doesn't fit at entry {index}")]
     Fit { index: u32 },
+    #[error("out of memory")]
     OutOfMemory,
 }
 

@@ -11,9 +11,11 @@ pub enum Stepped {
 }
 
 /// Why a step isn't made: 128 bits don't hold a number of it, or memory ran out.
-#[derive(Clone, Copy)]
+#[derive(Debug, Drop, thiserror::Error)]
 pub enum StepFault {
+    #[error("a number of the step is too wide")]
     Wide,
+    #[error("out of memory")]
     OutOfMemory,
 }
 
