@@ -1,6 +1,5 @@
 -- A pair has a condition exactly where it is one of the pairs of control flow: both follow one recursion over the tree.
-use Rattle.std.proofs.Common.{◌≡◌, ◌⊎◌, ℕ, List, [], ◌∷◌, ◌++◌, map, Bool, true, false, ◌&&◌, ◌||◌, not, Option, Some, None, is_some, refl, sym, ◌∙◌, ap, subst, inl, inr, if◌then◌else◌}
-use Rattle.std.specs.List.{list_any}
+use Rattle.std.proofs.Common.{◌≡◌, ◌⊎◌, ℕ, List, [], ◌∷◌, ◌++◌, Bool, true, false, ◌&&◌, ◌||◌, not, Option, Some, None, refl, sym, ◌∙◌, ap, subst, inl, inr, if◌then◌else◌}
 use Rattle.std.proofs.lemmas.Bool.{false≢true, eq-eqb}
 use Rattle.ac_tree.specs.declared.node.Node.{Node}
 use Rattle.ac_tree.specs.declared.node.NodeId.{NodeId}
@@ -12,8 +11,6 @@ use Rattle.ac_tree.specs.declared.path.Target.TheVariants as target
 use Rattle.ac_tree.specs.declared.policy.PolicyName.{PolicyName}
 use Rattle.ac_tree.specs.declared.program.CondKind.{CondKind}
 use Rattle.ac_tree.specs.declared.program.CondKind.TheVariants.{True, False, Rel}
-use Rattle.ac_tree.specs.declared.program.Cond.{Cond}
-use Rattle.ac_tree.specs.declared.program.Expr.{Expr}
 use Rattle.ac_tree.specs.declared.program.ExprKind.{ExprKind}
 use Rattle.ac_tree.specs.declared.program.ExprKind.TheVariants.{Num, Get, Read}
 use Rattle.ac_tree.specs.declared.program.Index.{Index}
@@ -21,11 +18,11 @@ use Rattle.ac_tree.specs.declared.program.Program.{Program}
 use Rattle.ac_tree.specs.declared.program.Stmt.{Stmt}
 use Rattle.ac_tree.specs.declared.program.StmtKind.{StmtKind, Row_of-Stmt, end_of-Stmt, more_of-Stmt, Set, Put, If', For', While', Hand, Skip}
 use Rattle.ac_tree.specs.Patterns.{Negative, Plus, Minus, Times, OneIndex, TwoIndexes, Negation, Conjunction, Disjunction}
-use Rattle.ac_run.specs.Declarations.{NameBytes, constant_of}
-use Rattle.ac_flow.specs.Leads.{is_site, is_entry, is_keep, is_barrier}
+use Rattle.ac_run.specs.Declarations.{constant_of}
+use Rattle.ac_flow.specs.Leads.{is_entry, is_keep, is_barrier}
 use Rattle.ac_flow.specs.Listed.{IsListed}
 use Rattle.ac_flow.specs.Pairs.{each, site_pairs, expr_pairs, index_pairs, cond_pairs, barrier_pairs, loop_pairs, stmt_pairs, block_pairs, list_pairs}
-use Rattle.ac_flow.specs.Through.{passes, block_passes, exits, block_exits, onward, behind_block, list_passes, list_exits, behind_list}
+use Rattle.ac_flow.specs.Through.{passes, block_passes, exits, block_exits, onward, behind_block}
 use Rattle.ac_flow.specs.Through.{behind as come_behind}
 use Rattle.ac_flow.proofs.Within.{in-left, in-right}
 use Rattle.ac_logic.specs.declared.condition.Condition.{Condition}
@@ -44,7 +41,7 @@ use Rattle.ac_conditions.specs.Hypotheses.{in_body, at_for_test, at_for_exit, at
 use Rattle.ac_conditions.specs.Marked.{ExprMarked, IndexMarked, CondMarked, StmtMarked, BlockMarked, ListMarked, AreMarked}
 use Rattle.ac_conditions.specs.Opened.{hidden, expr_shape, expr_child, cond_shape, cond_child, formula_shape, formula_child}
 use Rattle.ac_conditions.specs.Part.{Part, is_any}
-use Rattle.ac_conditions.specs.Preconditions.{past_barrier, before_changes, element_write, role_use, scalar_changes, element_changes, for_entry, for_keep, while_entry, while_keep, set_goal, put_goal, ends_goal, before, before_block, before_list, for_head, while_head}
+use Rattle.ac_conditions.specs.Preconditions.{past_barrier, before_changes, element_write, role_use, scalar_changes, element_changes, for_entry, for_keep, while_keep, set_goal, put_goal, ends_goal, before, before_block, before_list, for_head, while_head}
 use Rattle.ac_conditions.specs.Ranges.{ranges}
 use Rattle.ac_conditions.specs.Tests.{formula_of}
 

@@ -1,5 +1,5 @@
 -- Where there is a path formula, by its parts, and which lists have a pair, by theirs.
-use Rattle.std.proofs.Common.{◌≡◌, ◌⊎◌, ℕ, nat_eq, ℤ, List, [], ◌∷◌, ◌++◌, map, Bool, true, false, ◌||◌, Option, Some, None, is_some, refl, sym, ◌∙◌, ap, subst, inl, inr, if◌then◌else◌}
+use Rattle.std.proofs.Common.{◌≡◌, ◌⊎◌, ℕ, ℤ, List, [], ◌∷◌, ◌++◌, map, Bool, true, false, ◌||◌, Option, Some, None, is_some, refl, sym, ◌∙◌, ap, subst, inl, inr, if◌then◌else◌}
 use Rattle.std.specs.List.{list_any}
 use Rattle.std.proofs.lemmas.Bool.{false≢true, eq-eqb}
 use Rattle.ac_tree.specs.declared.node.NodeId.{NodeId}
@@ -7,7 +7,7 @@ use Rattle.ac_tree.specs.declared.path.Cut.{Cut}
 use Rattle.ac_tree.specs.declared.path.Pair.{Pair}
 use Rattle.ac_tree.specs.declared.path.Target.{Target}
 use Rattle.ac_tree.specs.declared.path.Target.TheVariants as target
-use Rattle.ac_flow.specs.Leads.{is_site, is_barrier}
+use Rattle.ac_flow.specs.Leads.{is_site}
 use Rattle.ac_flow.specs.Listed.{IsListed}
 use Rattle.ac_flow.specs.Pairs.{each, site_pairs, barrier_pairs}
 use Rattle.ac_flow.proofs.Within.{each-of}
@@ -17,7 +17,7 @@ use Rattle.ac_logic.specs.declared.formula.Formula.{Formula}
 use Rattle.ac_logic.specs.declared.label.LabelKind.{LabelKind}
 use Rattle.ac_policy.specs.declared.site.Site.{Site}
 use Rattle.ac_policy.specs.Sites.{unless_constant}
-use Rattle.ac_conditions.proofs.TargetsCover.{is_same, same_target}
+use Rattle.ac_conditions.proofs.TargetsCover.{same_target}
 use Rattle.ac_conditions.specs.Goals.{conjoined, goal_if, under, labelled_need, site_goal, sites_goal}
 use Rattle.ac_conditions.specs.Opened.{hidden, formula_shape, formula_child}
 use Rattle.ac_conditions.specs.Preconditions.{before_changes}

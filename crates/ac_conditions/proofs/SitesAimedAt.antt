@@ -1,8 +1,7 @@
 -- Each subject site is the target of a condition: a path leads to it from the cut before it.
-use Rattle.std.proofs.Common.{◌≡◌, ◌⊎◌, ℕ, List, [], ◌∷◌, ◌++◌, Bool, true, false, Option, Some, None, is_some, refl, sym, ◌∙◌, ap, subst, inl, inr, Contains}
+use Rattle.std.proofs.Common.{◌≡◌, ◌⊎◌, List, [], ◌∷◌, ◌++◌, true, false, Option, Some, None, is_some, refl, sym, ap, inl, inr, Contains}
 use Rattle.std.specs.List.{AllByRecursion}
 use Rattle.std.proofs.lemmas.Bool.{eq-eqb}
-use Rattle.ac_tree.specs.declared.node.Node.{Node}
 use Rattle.ac_tree.specs.declared.node.NodeId.{NodeId}
 use Rattle.ac_tree.specs.declared.path.Cut.{Cut}
 use Rattle.ac_tree.specs.declared.path.Cut.TheVariants.{Start, Head, Exit, After}
@@ -34,7 +33,7 @@ use Rattle.ac_conditions.specs.Goals.{conjoined, under, site_goal, sites_goal, c
 use Rattle.ac_conditions.specs.Hypotheses.{in_body}
 use Rattle.ac_conditions.specs.Opened.{hidden, cond_shape, cond_child, formula_shape, formula_child}
 use Rattle.ac_conditions.specs.Part.{Part}
-use Rattle.ac_conditions.specs.Preconditions.{past_barrier, before_changes, element_write, role_use, scalar_changes, element_changes, for_entry, for_keep, while_entry, while_keep, set_goal, put_goal, ends_goal, before, before_block, before_list, for_head, while_head}
+use Rattle.ac_conditions.specs.Preconditions.{past_barrier, element_write, role_use, scalar_changes, element_changes, for_entry, for_keep, while_keep, set_goal, put_goal, ends_goal, before, before_block, before_list, for_head, while_head}
 use Rattle.ac_conditions.specs.Ranges.{ranges}
 use Rattle.ac_conditions.specs.Targets.{list_targets}
 use Rattle.ac_conditions.specs.Tests.{formula_of}

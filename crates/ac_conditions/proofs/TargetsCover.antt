@@ -1,8 +1,7 @@
 -- No condition aims at anything but the listed targets.
-use Rattle.std.proofs.Common.{◌≡◌, ◌⊎◌, ℕ, nat_eq, List, [], ◌∷◌, ◌++◌, map, Bool, true, false, Option, Some, None, refl, sym, subst, inl, inr, rules, if◌then◌else◌}
+use Rattle.std.proofs.Common.{◌≡◌, ◌⊎◌, ℕ, nat_eq, List, [], ◌∷◌, ◌++◌, Bool, true, false, Option, None, refl, sym, subst, inl, inr, rules, if◌then◌else◌}
 use Rattle.std.specs.List.{AllByRecursion}
 use Rattle.std.proofs.lemmas.Bool.{false≢true}
-use Rattle.ac_tree.specs.declared.node.Node.{Node}
 use Rattle.ac_tree.specs.declared.node.NodeId.{NodeId}
 use Rattle.ac_tree.specs.declared.path.Cut.{Cut}
 use Rattle.ac_tree.specs.declared.path.Cut.TheVariants.{Start, Head, Exit, After}
@@ -29,10 +28,10 @@ use Rattle.ac_conditions.specs.Conditions.{condition, barrier_condition, conditi
 use Rattle.ac_conditions.specs.Goals.{conjoined, goal_if, under, labelled_need, site_goal, sites_goal, cond_goal}
 use Rattle.ac_conditions.specs.Opened.{hidden, cond_shape, cond_child, formula_shape, formula_child}
 use Rattle.ac_conditions.specs.Part.{Part}
-use Rattle.ac_conditions.specs.Preconditions.{past_barrier, before_changes, element_write, role_use, scalar_changes, element_changes, for_entry, for_keep, while_entry, while_keep, set_goal, put_goal, ends_goal, before, before_block, before_list, for_head, while_head}
+use Rattle.ac_conditions.specs.Preconditions.{past_barrier, before_changes, element_write, role_use, scalar_changes, element_changes, for_entry, for_keep, while_keep, set_goal, put_goal, ends_goal, before, before_block, before_list, for_head, while_head}
 use Rattle.ac_conditions.specs.Ranges.{ranges}
 use Rattle.ac_conditions.specs.Targets.{site_targets, stmt_targets, block_targets, list_targets}
-use Rattle.ac_conditions.specs.Tests.{labelled, formula_of}
+use Rattle.ac_conditions.specs.Tests.{formula_of}
 
 abbrev pub is_same : Target → Target → Bool
 is_same t (target.Entry n) = is_entry t n

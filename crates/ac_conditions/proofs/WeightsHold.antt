@@ -1,5 +1,5 @@
 -- Weights go through changes as valuations do, so a size is known before the formula is made.
-use Rattle.std.proofs.Common.{◌≡◌, ℕ, ◌+◌, ◌≤◌, max, List, [], ◌∷◌, refl, sym, ◌∙◌, ap, arith}
+use Rattle.std.proofs.Common.{◌≡◌, ℕ, ◌+◌, ◌≤◌, max, List, refl, ◌∙◌, arith}
 use Rattle.ac_logic.specs.declared.formula.Sym.{Sym}
 use Rattle.ac_logic.specs.declared.formula.Change.{Change}
 use Rattle.ac_logic.specs.declared.formula.Term.{Term, Num, Bound}

@@ -1,7 +1,6 @@
 -- The verification conditions of one target: at each cut from which a path leads there, the hypotheses of the cut, each
 -- implying the next, and then the path formula. They stand in the order of the cuts: by node, and Head, Exit, After at one node.
-use Rattle.std.specs.Prelude.{ℕ, List, [], ◌∷◌, ◌++◌, Option, Some, None}
-use Rattle.ac_tree.specs.declared.node.Node.{Node}
+use Rattle.std.specs.Prelude.{List, [], ◌∷◌, ◌++◌, Option, Some, None}
 use Rattle.ac_tree.specs.declared.node.NodeId.{NodeId}
 use Rattle.ac_tree.specs.declared.path.Cut.{Cut}
 use Rattle.ac_tree.specs.declared.path.Cut.TheVariants.{Start, Head, Exit, After}

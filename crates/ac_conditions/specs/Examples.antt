@@ -1,6 +1,6 @@
 -- Worked conditions: a loop that fills an array, and a read of its last cell.
 --   var a[10]; var i; var x; begin for i := 0 to 9 do a[i] := 0; end x := a[9]; end
-use Rattle.std.specs.Prelude.{ℕ, List, [], ◌∷◌, map, codes, ℤ, pos}
+use Rattle.std.specs.Prelude.{ℕ, List, [], ◌∷◌, codes, pos}
 use Rattle.ac_tree.specs.declared.path.Cut.TheVariants.{Start, Head, Exit, After}
 use Rattle.ac_tree.specs.declared.path.Pair.{Pair}
 use Rattle.ac_tree.specs.declared.path.Place.TheVariants as place
@@ -13,15 +13,13 @@ use Rattle.ac_logic.specs.declared.formula.Formula.{Formula, True, Le, Eq}
 use Rattle.ac_logic.specs.declared.formula.Sym.TheVariants.{Value, Init}
 use Rattle.ac_logic.specs.declared.formula.Term.{Term, Num, Bound}
 use Rattle.ac_logic.specs.declared.label.LabelKind.TheVariants as label
-use Rattle.ac_logic.specs.Patterns.{Scalar, Array, ReadOf, PutOf, Conjunction, Implication, Every}
+use Rattle.ac_logic.specs.Patterns.{Scalar, Array, ReadOf, Conjunction, Implication, Every}
 use Rattle.ac_policy.specs.AnyPolicy.{need_at, effect_at, known_at}
 use Rattle.ac_policy.specs.declared.any_policy.AnyPolicy.TheVariants as policy
 use Rattle.ac_policy.specs.Extents.{index_within}
-use Rattle.ac_policy.specs.Init.{is_marked}
 use Rattle.ac_conditions.specs.AllConditions.{all_conditions}
 use Rattle.ac_conditions.specs.Opened.{hidden, term_shape, term_child, array_shape, array_child, formula_shape, formula_child}
-use Rattle.ac_conditions.specs.Ranges.{between}
-use Rattle.ac_conditions.specs.Tests.{labelled, one_more}
+use Rattle.ac_conditions.specs.Tests.{labelled}
 
 abbrev pub num : ℕ → Term
 num n = Num (pos n)

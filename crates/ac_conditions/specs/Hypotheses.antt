@@ -1,5 +1,5 @@
 -- The hypotheses at a cut, beside the ranges of inputs: what the `for` loops around it say, the exit of a loop, and annotations.
-use Rattle.std.specs.Prelude.{List, [], ◌∷◌, map, Option, Some, None}
+use Rattle.std.specs.Prelude.{List, map, Option, Some, None}
 use Rattle.ac_tree.specs.declared.node.NodeId.{NodeId}
 use Rattle.ac_tree.specs.declared.program.Cond.{Cond}
 use Rattle.ac_tree.specs.declared.program.Expr.{Expr}

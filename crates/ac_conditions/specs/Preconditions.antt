@@ -1,7 +1,6 @@
 -- The path formula before a statement: its weakest precondition for one target, made backwards from what stands behind it up
 -- to the next cut. There is none where no path leads to the target without passing a cut.
-use Rattle.std.specs.Prelude.{ℕ, List, [], ◌∷◌, ◌++◌, Option, Some, None}
-use Rattle.ac_tree.specs.declared.node.Node.{Node}
+use Rattle.std.specs.Prelude.{List, [], ◌∷◌, ◌++◌, Option, Some, None}
 use Rattle.ac_tree.specs.declared.node.NodeId.{NodeId}
 use Rattle.ac_tree.specs.declared.path.Target.{Target}
 use Rattle.ac_tree.specs.declared.program.Cond.{Cond}

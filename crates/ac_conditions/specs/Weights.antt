@@ -1,5 +1,5 @@
 -- The size and the depth that a formula gets when its symbols get theirs.
-use Rattle.std.specs.Prelude.{ℕ, ◌+◌, max, List}
+use Rattle.std.specs.Prelude.{ℕ, ◌+◌, List}
 use Rattle.ac_logic.specs.declared.formula.Sym.{Sym}
 use Rattle.ac_logic.specs.declared.formula.Change.{Change}
 use Rattle.ac_logic.specs.declared.formula.Term.{Term, Num, Bound}
