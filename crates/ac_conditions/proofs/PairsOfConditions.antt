@@ -49,10 +49,10 @@ module _ (p : Program) (q : PolicyName) (part : Part) (t : Target) where
     stmt_aims hs n (If' test _ y _ z) behind bs h = all_join bs _ h (all_join (block_conditions p q part t hs y behind) (block_conditions p q part t hs z behind) (block_aims hs y behind) (block_aims hs z behind))
     stmt_aims hs n (For' x lo hi _ body) behind bs h =
         all_join (condition p q part t (Head n) _ (for_head p part t n x hi body)) _ (one_aims (Head n) _ (for_head p part t n x hi body))
-          (all_join (condition p q part t (Exit n) _ behind) _ (one_aims (Exit n) _ behind) (all_join bs _ h (block_aims (hs ++ in_body p part n x lo hi ∷ []) body (for_keep p part t n x))))
+        (all_join (condition p q part t (Exit n) _ behind) _ (one_aims (Exit n) _ behind) (all_join bs _ h (block_aims (hs ++ in_body p part n x lo hi ∷ []) body (for_keep p part t n x))))
     stmt_aims hs n (While' test _ body) behind bs h =
         all_join (condition p q part t (Head n) _ (while_head p part t n test body)) _ (one_aims (Head n) _ (while_head p part t n test body))
-          (all_join (condition p q part t (Exit n) _ behind) _ (one_aims (Exit n) _ behind) (all_join bs _ h (block_aims hs body (while_keep p part t n))))
+        (all_join (condition p q part t (Exit n) _ behind) _ (one_aims (Exit n) _ behind) (all_join bs _ h (block_aims hs body (while_keep p part t n))))
     stmt_aims hs n (Hand x role) behind bs h = h
     stmt_aims hs n Skip behind bs h = h
 
@@ -79,9 +79,10 @@ module _ (p : Program) (q : PolicyName) (part : Part) where
 
   from_each_target : (us : List Target) (c : Cut) (t : Target) → IsListed (pairs_in (at_each At us)) (record { cut = c; target = t }) → IsListed (pairs_in (At t)) (record { cut = c; target = t })
   from_each_target [] c t h = absurd h
-  from_each_target (u ∷ us) c t h = elim (pairs_split (At u) (at_each At us) (record { cut = c; target = t }) h)
-    [ inl k ↦ subst (λ (v : Target). IsListed (pairs_in (At v)) (record { cut = c; target = t })) (sym (aims_there u (At u) (record { cut = c; target = t }) (all_aim p q part u) k)) k
-    | inr k ↦ from_each_target us c t k ]
+  from_each_target (u ∷ us) c t h = elim (pairs_split (At u) (at_each At us) (record { cut = c; target = t }) h) [
+    | inl k ↦ subst (λ (v : Target). IsListed (pairs_in (At v)) (record { cut = c; target = t })) (sym (aims_there u (At u) (record { cut = c; target = t }) (all_aim p q part u) k)) k
+    | inr k ↦ from_each_target us c t k
+  ]
 
   pub to_each_target : (us : List Target) (c : Cut) (t : Target) → (Apart t us → ⊥) → IsListed (pairs_in (At t)) (record { cut = c; target = t }) → IsListed (pairs_in (at_each At us)) (record { cut = c; target = t })
   to_each_target [] c t within h = absurd (within tt)
@@ -89,7 +90,7 @@ module _ (p : Program) (q : PolicyName) (part : Part) where
     where
       by : (b : Bool) → is_same t u ≡ b → ((Apart t us → ⊥) → IsListed (pairs_in (at_each (conditions_at p q part) us)) (record { cut = c; target = t })) → IsListed (pairs_in (at_each (conditions_at p q part) (u ∷ us))) (record { cut = c; target = t })
       by true e later = pairs_left (conditions_at p q part u) (at_each (conditions_at p q part) us) (record { cut = c; target = t })
-        (subst (λ (v : Target). IsListed (pairs_in (conditions_at p q part v)) (record { cut = c; target = t })) (same_target t u e) h)
+          (subst (λ (v : Target). IsListed (pairs_in (conditions_at p q part v)) (record { cut = c; target = t })) (same_target t u e) h)
       by false e later = pairs_right (conditions_at p q part u) (at_each (conditions_at p q part) us) (record { cut = c; target = t }) (later (λ apart. within (e, apart)))
 
   pub not_apart : (c : Cut) (t : Target) → IsListed (pairs_in (At t)) (record { cut = c; target = t }) → Apart t (list_targets p p.body) → ⊥

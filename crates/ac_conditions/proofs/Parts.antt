@@ -145,15 +145,17 @@ module _ (need : Site → Option Formula) (subject : ℕ → Bool) (c : Cut) (t 
 
   pub sites_split : (xs ys : List Site) → IsThere (sites_goal need t (xs ++ ys)) → IsThere (sites_goal need t xs) ⊎ IsThere (sites_goal need t ys)
   sites_split [] ys h = inr h
-  sites_split (x ∷ xs) ys h = elim (from_both (site_goal need t x) (sites_goal need t (xs ++ ys)) h)
-    [ inl k ↦ inl (to_first (site_goal need t x) (sites_goal need t xs) k)
-    | inr k ↦ elim (sites_split xs ys k) [ inl j ↦ inl (to_second (site_goal need t x) (sites_goal need t xs) j) | inr j ↦ inr j ] ]
+  sites_split (x ∷ xs) ys h = elim (from_both (site_goal need t x) (sites_goal need t (xs ++ ys)) h) [
+    | inl k ↦ inl (to_first (site_goal need t x) (sites_goal need t xs) k)
+    | inr k ↦ elim (sites_split xs ys k) [ inl j ↦ inl (to_second (site_goal need t x) (sites_goal need t xs) j) | inr j ↦ inr j ]
+  ]
 
   pub sites_left : (xs ys : List Site) → IsThere (sites_goal need t xs) → IsThere (sites_goal need t (xs ++ ys))
   sites_left [] ys h = absurd h
-  sites_left (x ∷ xs) ys h = elim (from_both (site_goal need t x) (sites_goal need t xs) h)
-    [ inl k ↦ to_first (site_goal need t x) (sites_goal need t (xs ++ ys)) k
-    | inr k ↦ to_second (site_goal need t x) (sites_goal need t (xs ++ ys)) (sites_left xs ys k) ]
+  sites_left (x ∷ xs) ys h = elim (from_both (site_goal need t x) (sites_goal need t xs) h) [
+    | inl k ↦ to_first (site_goal need t x) (sites_goal need t (xs ++ ys)) k
+    | inr k ↦ to_second (site_goal need t x) (sites_goal need t (xs ++ ys)) (sites_left xs ys k)
+  ]
 
   pub sites_right : (xs ys : List Site) → IsThere (sites_goal need t ys) → IsThere (sites_goal need t (xs ++ ys))
   sites_right [] ys h = h

@@ -126,9 +126,10 @@ module _ (p : Program) (q : PolicyName) (part : Part) (t : Target) where
 
   goals_there : (xs : List Site) → AllByRecursion (λ s. Wanted s → IsThere (sites_goal part.need t xs)) xs
   goals_there [] = tt
-  goals_there (x ∷ xs) =
-      ((λ w. to_first (site_goal part.need t x) (sites_goal part.need t xs) (to_site part.need (λ n. false) Start t x w.0 w.1)),
-       all_map (λ s. Wanted s → IsThere (sites_goal part.need t xs)) (λ s. Wanted s → IsThere (sites_goal part.need t (x ∷ xs))) xs (λ s f w. to_second (site_goal part.need t x) (sites_goal part.need t xs) (f w)) (goals_there xs))
+  goals_there (x ∷ xs) = (
+    (λ w. to_first (site_goal part.need t x) (sites_goal part.need t xs) (to_site part.need (λ n. false) Start t x w.0 w.1)),
+    all_map (λ s. Wanted s → IsThere (sites_goal part.need t xs)) (λ s. Wanted s → IsThere (sites_goal part.need t (x ∷ xs))) xs (λ s f w. to_second (site_goal part.need t x) (sites_goal part.need t xs) (f w)) (goals_there xs),
+  )
 
   cond_there : (d : CondKind) → AllByRecursion (λ s. Wanted s → IsThere (cond_goal part.need t p d)) (cond_sites p d)
   unfolding hidden cond_shape cond_child formula_shape formula_child
@@ -139,13 +140,13 @@ module _ (p : Program) (q : PolicyName) (part : Part) (t : Target) where
   cond_there (Conjunction n d l e) =
       let g = under label.Guard n.id (formula_of p d) (cond_goal part.need t p e) in
       all_append (λ s. Wanted s → IsThere (conjoined (cond_goal part.need t p d) g)) (cond_sites p d) (cond_sites p e)
-        (all_map (λ s. Wanted s → IsThere (cond_goal part.need t p d)) _ (cond_sites p d) (λ s f w. to_first (cond_goal part.need t p d) g (f w)) (cond_there d))
-        (all_map (λ s. Wanted s → IsThere (cond_goal part.need t p e)) _ (cond_sites p e) (λ s f w. to_second (cond_goal part.need t p d) g (to_premise label.Guard n.id (formula_of p d) (cond_goal part.need t p e) (f w))) (cond_there e))
+      (all_map (λ s. Wanted s → IsThere (cond_goal part.need t p d)) _ (cond_sites p d) (λ s f w. to_first (cond_goal part.need t p d) g (f w)) (cond_there d))
+      (all_map (λ s. Wanted s → IsThere (cond_goal part.need t p e)) _ (cond_sites p e) (λ s f w. to_second (cond_goal part.need t p d) g (to_premise label.Guard n.id (formula_of p d) (cond_goal part.need t p e) (f w))) (cond_there e))
   cond_there (Disjunction n d l e) =
       let g = under label.Guard n.id (Not (formula_of p d)) (cond_goal part.need t p e) in
       all_append (λ s. Wanted s → IsThere (conjoined (cond_goal part.need t p d) g)) (cond_sites p d) (cond_sites p e)
-        (all_map (λ s. Wanted s → IsThere (cond_goal part.need t p d)) _ (cond_sites p d) (λ s f w. to_first (cond_goal part.need t p d) g (f w)) (cond_there d))
-        (all_map (λ s. Wanted s → IsThere (cond_goal part.need t p e)) _ (cond_sites p e) (λ s f w. to_second (cond_goal part.need t p d) g (to_premise label.Guard n.id (Not (formula_of p d)) (cond_goal part.need t p e) (f w))) (cond_there e))
+      (all_map (λ s. Wanted s → IsThere (cond_goal part.need t p d)) _ (cond_sites p d) (λ s f w. to_first (cond_goal part.need t p d) g (f w)) (cond_there d))
+      (all_map (λ s. Wanted s → IsThere (cond_goal part.need t p e)) _ (cond_sites p e) (λ s f w. to_second (cond_goal part.need t p d) g (to_premise label.Guard n.id (Not (formula_of p d)) (cond_goal part.need t p e) (f w))) (cond_there e))
 
   -- the body of a loop
   loop_there : {a : _} (n : NodeId) (body : Row_of-Stmt a) (head kept : Option Formula) (first inside : List Formula) (exit bs : List Condition) → (IsThere (before_block p part t body kept) → IsThere head) →
@@ -171,10 +172,10 @@ module _ (p : Program) (q : PolicyName) (part : Part) (t : Target) where
         let zs = block_conditions p q part t hs z path in
         let goal = cond_goal part.need t p test.kind in
         all_append _ (cond_sites p test.kind) (block_sites p y ++ block_sites p z)
-          (all_map (λ s. Wanted s → IsThere goal) _ (cond_sites p test.kind) (λ s f w. inl (to_first goal _ (f w))) (cond_there test.kind))
-          (all_append _ (block_sites p y) (block_sites p z)
-            (all_map (λ s. Wanted s → Aimed Y ys) _ (block_sites p y) (λ s f w. yes_there goal n F (Not F) Y Z ys zs bs (f w)) (block_there y hs path))
-            (all_map (λ s. Wanted s → Aimed Z zs) _ (block_sites p z) (λ s f w. no_there goal n F (Not F) Y Z ys zs bs (f w)) (block_there z hs path)))
+        (all_map (λ s. Wanted s → IsThere goal) _ (cond_sites p test.kind) (λ s f w. inl (to_first goal _ (f w))) (cond_there test.kind))
+        (all_append _ (block_sites p y) (block_sites p z)
+        (all_map (λ s. Wanted s → Aimed Y ys) _ (block_sites p y) (λ s f w. yes_there goal n F (Not F) Y Z ys zs bs (f w)) (block_there y hs path))
+        (all_map (λ s. Wanted s → Aimed Z zs) _ (block_sites p z) (λ s f w. no_there goal n F (Not F) Y Z ys zs bs (f w)) (block_there z hs path)))
     stmt_there n (For' x lo hi i body) hs path bs =
         let los = expr_sites p lo.node.id lo.kind in
         let his = expr_sites p hi.node.id hi.kind in
@@ -182,19 +183,19 @@ module _ (p : Program) (q : PolicyName) (part : Part) (t : Target) where
         let hs2 = hs ++ in_body p part n x lo hi ∷ [] in
         let ends = all_parts (λ s. Wanted s → IsThere (sites_goal part.need t (los ++ his))) los his (goals_there (los ++ his)) in
         all_append _ los (his ++ block_sites p body)
-          (all_map (λ s. Wanted s → IsThere (sites_goal part.need t (los ++ his))) _ los (λ s f w. inl (to_first (ends_goal p part t lo hi) (for_entry p part t n x lo) (f w))) ends.0)
-          (all_append _ his (block_sites p body)
-            (all_map (λ s. Wanted s → IsThere (sites_goal part.need t (los ++ his))) _ his (λ s f w. inl (to_first (ends_goal p part t lo hi) (for_entry p part t n x lo) (f w))) ends.1)
-            (all_map (λ s. Wanted s → Aimed (before_block p part t body kept) (block_conditions p q part t hs2 body kept)) _ (block_sites p body)
-              (λ s f w. inr (loop_there n body (for_head p part t n x hi body) kept _ hs2 _ bs (λ g. to_premise label.Test n _ (before_block p part t body kept) g) (f w))) (block_there body hs2 kept)))
+        (all_map (λ s. Wanted s → IsThere (sites_goal part.need t (los ++ his))) _ los (λ s f w. inl (to_first (ends_goal p part t lo hi) (for_entry p part t n x lo) (f w))) ends.0)
+        (all_append _ his (block_sites p body)
+        (all_map (λ s. Wanted s → IsThere (sites_goal part.need t (los ++ his))) _ his (λ s f w. inl (to_first (ends_goal p part t lo hi) (for_entry p part t n x lo) (f w))) ends.1)
+        (all_map (λ s. Wanted s → Aimed (before_block p part t body kept) (block_conditions p q part t hs2 body kept)) _ (block_sites p body)
+        (λ s f w. inr (loop_there n body (for_head p part t n x hi body) kept _ hs2 _ bs (λ g. to_premise label.Test n _ (before_block p part t body kept) g) (f w))) (block_there body hs2 kept)))
     stmt_there n (While' test i body) hs path bs =
         let kept = while_keep p part t n in
         let goal = cond_goal part.need t p test.kind in
         let turn = under label.Test n (formula_of p test.kind) (before_block p part t body kept) in
         all_append _ (cond_sites p test.kind) (block_sites p body)
-          (all_map (λ s. Wanted s → IsThere goal) _ (cond_sites p test.kind) (λ s f w. inr (more_left (condition p q part t (Head n) _ (while_head p part t n test body)) _ (one_there (Head n) _ (while_head p part t n test body) (to_first goal turn (f w))))) (cond_there test.kind))
-          (all_map (λ s. Wanted s → Aimed (before_block p part t body kept) (block_conditions p q part t hs body kept)) _ (block_sites p body)
-            (λ s f w. inr (loop_there n body (while_head p part t n test body) kept _ hs _ bs (λ g. to_second goal turn (to_premise label.Test n (formula_of p test.kind) (before_block p part t body kept) g)) (f w))) (block_there body hs kept))
+        (all_map (λ s. Wanted s → IsThere goal) _ (cond_sites p test.kind) (λ s f w. inr (more_left (condition p q part t (Head n) _ (while_head p part t n test body)) _ (one_there (Head n) _ (while_head p part t n test body) (to_first goal turn (f w))))) (cond_there test.kind))
+        (all_map (λ s. Wanted s → Aimed (before_block p part t body kept) (block_conditions p q part t hs body kept)) _ (block_sites p body)
+        (λ s f w. inr (loop_there n body (while_head p part t n test body) kept _ hs _ bs (λ g. to_second goal turn (to_premise label.Test n (formula_of p test.kind) (before_block p part t body kept) g)) (f w))) (block_there body hs kept))
 
     block_there : {a : _} (row : Row_of-Stmt a) (hs : List Formula) (path : Option Formula) → AllByRecursion (λ s. Wanted s → Aimed (before_block p part t row path) (block_conditions p q part t hs row path)) (block_sites p row)
     block_there end_of-Stmt hs path = tt
@@ -205,8 +206,8 @@ module _ (p : Program) (q : PolicyName) (part : Part) (t : Target) where
         let front = conditions p q part t hs n.id st pb bs in
         let more = block_conditions p q part t hs rest path in
         all_append _ (stmt_sites p n.id st) (block_sites p rest)
-          (all_map (λ s. Wanted s → Aimed (before p part t n.id st pb) front) _ (stmt_sites p n.id st) (λ s f w. front_there (before p part t n.id st pb) front more (f w)) (stmt_there n.id st hs pb bs))
-          (all_map (λ s. Wanted s → Aimed R more) _ (block_sites p rest) (λ s f w. rest_there (before p part t n.id st pb) front more R (stepping n.id st hs (part.behind n.id) R (λ g. stmt_through n.id st hs pb bs g)) (f w)) (block_there rest hs path))
+        (all_map (λ s. Wanted s → Aimed (before p part t n.id st pb) front) _ (stmt_sites p n.id st) (λ s f w. front_there (before p part t n.id st pb) front more (f w)) (stmt_there n.id st hs pb bs))
+        (all_map (λ s. Wanted s → Aimed R more) _ (block_sites p rest) (λ s f w. rest_there (before p part t n.id st pb) front more R (stepping n.id st hs (part.behind n.id) R (λ g. stmt_through n.id st hs pb bs g)) (f w)) (block_there rest hs path))
 
   list_there : (sts : List Stmt) (hs : List Formula) (path : Option Formula) → AllByRecursion (λ s. Wanted s → Aimed (before_list p part t sts path) (list_conditions p q part t hs sts path)) (list_sites p sts)
   list_there [] hs path = tt
@@ -218,13 +219,14 @@ module _ (p : Program) (q : PolicyName) (part : Part) (t : Target) where
       let front = conditions p q part t hs n st.kind pb bs in
       let more = list_conditions p q part t hs sts path in
       all_append _ (stmt_sites p n st.kind) (list_sites p sts)
-        (all_map (λ s. Wanted s → Aimed (before p part t n st.kind pb) front) _ (stmt_sites p n st.kind) (λ s f w. front_there (before p part t n st.kind pb) front more (f w)) (stmt_there n st.kind hs pb bs))
-        (all_map (λ s. Wanted s → Aimed R more) _ (list_sites p sts) (λ s f w. rest_there (before p part t n st.kind pb) front more R (stepping n st.kind hs (part.behind n) R (λ g. stmt_through n st.kind hs pb bs g)) (f w)) (list_there sts hs path))
+      (all_map (λ s. Wanted s → Aimed (before p part t n st.kind pb) front) _ (stmt_sites p n st.kind) (λ s f w. front_there (before p part t n st.kind pb) front more (f w)) (stmt_there n st.kind hs pb bs))
+      (all_map (λ s. Wanted s → Aimed R more) _ (list_sites p sts) (λ s f w. rest_there (before p part t n st.kind pb) front more R (stepping n st.kind hs (part.behind n) R (λ g. stmt_through n st.kind hs pb bs g)) (f w)) (list_there sts hs path))
 
   site_there : (s : Site) → Contains (sites_of p) s → Wanted s → NonEmpty (conditions_at p q part t)
-  site_there s h w = elim (in_all (λ z. Wanted z → Aimed (before_list p part t p.body None) (list_conditions p q part t (ranges p p.items) p.body None)) (sites_of p) s (list_there p.body (ranges p p.items) None) h w)
-    [ inl g ↦ more_left (condition p q part t Start (ranges p p.items) (before_list p part t p.body None)) (list_conditions p q part t (ranges p p.items) p.body None) (one_there Start (ranges p p.items) (before_list p part t p.body None) g)
-    | inr g ↦ more_right (condition p q part t Start (ranges p p.items) (before_list p part t p.body None)) (list_conditions p q part t (ranges p p.items) p.body None) g ]
+  site_there s h w = elim (in_all (λ z. Wanted z → Aimed (before_list p part t p.body None) (list_conditions p q part t (ranges p p.items) p.body None)) (sites_of p) s (list_there p.body (ranges p p.items) None) h w) [
+    | inl g ↦ more_left (condition p q part t Start (ranges p p.items) (before_list p part t p.body None)) (list_conditions p q part t (ranges p p.items) p.body None) (one_there Start (ranges p p.items) (before_list p part t p.body None) g)
+    | inr g ↦ more_right (condition p q part t Start (ranges p p.items) (before_list p part t p.body None)) (list_conditions p q part t (ranges p p.items) p.body None) g
+  ]
 
 -- the first of some conditions that all aim at a target
 first_of : (t : Target) (cs : List Condition) → NonEmpty cs → AllByRecursion (λ (x : Condition). x.pair.target ≡ t) cs → (c : Cut) × IsListed (pairs_in cs) (record { cut = c; target = t })

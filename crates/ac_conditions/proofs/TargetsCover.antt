@@ -206,6 +206,7 @@ found_or_apart P f (u ∷ us) h t =
 
 -- What is true of every condition of a program is true of those of every target.
 pub covers : (p : Program) (q : PolicyName) (part : Part) (P : Condition → Type 0) → AllByRecursion P (at_each (conditions_at p q part) (list_targets p p.body)) → (t : Target) → AllByRecursion P (conditions_at p q part t)
-covers p q part P h t = elim (found_or_apart P (conditions_at p q part) (list_targets p p.body) h t)
-  [ inl a ↦ a
-  | inr a ↦ subst (λ (cs : List Condition). AllByRecursion P cs) (sym (none_aims p q part t a)) tt ]
+covers p q part P h t = elim (found_or_apart P (conditions_at p q part) (list_targets p p.body) h t) [
+  | inl a ↦ a
+  | inr a ↦ subst (λ (cs : List Condition). AllByRecursion P cs) (sym (none_aims p q part t a)) tt
+]

@@ -59,7 +59,7 @@ module _ (p : Program) (policy : PolicyName) (part : Part) (t : Target) where
     block_conditions hypotheses end_of-Stmt behind = []
     block_conditions hypotheses (more_of-Stmt n st rest) behind =
         conditions hypotheses n.id st (past_barrier t n.id (part.behind n.id) (before_block p part t rest behind))
-          (barrier_condition n.id hypotheses (part.behind n.id) (before_block p part t rest behind))
+        (barrier_condition n.id hypotheses (part.behind n.id) (before_block p part t rest behind))
         ++ block_conditions hypotheses rest behind
 
   -- the same of a list of statements
@@ -67,7 +67,7 @@ module _ (p : Program) (policy : PolicyName) (part : Part) (t : Target) where
   list_conditions hypotheses [] behind = []
   list_conditions hypotheses (st ∷ rest) behind =
       conditions hypotheses st.node.id st.kind (past_barrier t st.node.id (part.behind st.node.id) (before_list p part t rest behind))
-        (barrier_condition st.node.id hypotheses (part.behind st.node.id) (before_list p part t rest behind))
+      (barrier_condition st.node.id hypotheses (part.behind st.node.id) (before_list p part t rest behind))
       ++ list_conditions hypotheses rest behind
 
   -- those of a program, at whose end no path goes on

@@ -50,7 +50,7 @@ unfolding hidden formula_shape formula_child
 last_condition = record {
   policy = name.Init;
   pair = pair (After (id 4)) (Site (id 11));
-  formula = Implication (labelled label.Assumed (id 4) (all_marked_to (num 9))) (labelled label.Need (id 11) (marked (num 9)))
+  formula = Implication (labelled label.Assumed (id 4) (all_marked_to (num 9))) (labelled label.Need (id 11) (marked (num 9)));
 }
 
 abbrev pub i : Term
@@ -65,7 +65,7 @@ unfolding hidden formula_shape formula_child
 keep_condition = record {
   policy = name.Init;
   pair = pair (Head (id 4)) (Keep (id 4));
-  formula = Implication (labelled label.Header (id 4) (Conjunction (Le (num 0) i) known_i)) (Implication (labelled label.Test (id 4) (Le i (num 9))) (labelled label.Set (id 7) (labelled label.Keep (id 4) True)))
+  formula = Implication (labelled label.Header (id 4) (Conjunction (Le (num 0) i) known_i)) (Implication (labelled label.Test (id 4) (Le i (num 9))) (labelled label.Set (id 7) (labelled label.Keep (id 4) True)));
 }
 
 -- Under bounds the write and the read of an element are subject.
@@ -81,5 +81,5 @@ unfolding hidden formula_shape formula_child
 write_condition = record {
   policy = name.Bounds;
   pair = pair (Head (id 4)) (Site (id 7));
-  formula = Implication (labelled label.Header (id 4) (Le (num 0) i)) (Implication (labelled label.Test (id 4) (Le i (num 9))) (labelled label.Need (id 7) (in_bounds i)))
+  formula = Implication (labelled label.Header (id 4) (Le (num 0) i)) (Implication (labelled label.Test (id 4) (Le i (num 9))) (labelled label.Need (id 7) (in_bounds i)));
 }

@@ -45,7 +45,7 @@ part_of need effect known annotations = record {
   effect = effect;
   known = known;
   invariant = λ n. facts_at (is_loop n) annotations;
-  behind = λ n. facts_at (is_after n) annotations
+  behind = λ n. facts_at (is_after n) annotations;
 }
 
 abbrev pub places_of : List Annotation → List Place

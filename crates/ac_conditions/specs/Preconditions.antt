@@ -100,7 +100,7 @@ module _ (p : Program) where
         before n (Put x at e) behind = conjoined (put_goal n x at e) (before_changes n (element_changes n x at (term_of p e.kind)) behind)
         before n (If' test _ yes_ _ no_) behind =
             conjoined (cond_goal part.need t p test.kind)
-              (conjoined (under label.Test n (formula_of p test.kind) (before_block yes_ behind)) (under label.Denied n (Not (formula_of p test.kind)) (before_block no_ behind)))
+            (conjoined (under label.Test n (formula_of p test.kind) (before_block yes_ behind)) (under label.Denied n (Not (formula_of p test.kind)) (before_block no_ behind)))
         before n (For' x lo hi _ body) behind = conjoined (ends_goal lo hi) (for_entry n x lo)
         before n (While' test _ body) behind = while_entry n
         before n (Hand x role) behind = conjoined (site_goal part.need t (role_use n x role)) behind
