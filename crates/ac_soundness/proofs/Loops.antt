@@ -13,7 +13,7 @@ use Rattle.ac_logic.specs.declared.formula.Formula.{Formula}
 use Rattle.ac_logic.specs.declared.formula.Sym.TheVariants.{Value}
 use Rattle.ac_logic.specs.Meaning.{Valuation, Holds, value}
 use Rattle.ac_logic.specs.Patterns.{Scalar}
-use Rattle.ac_policy.specs.ExtentsHold.{literal_value}
+use Rattle.ac_policy.specs.ExtentValues.{literal_value}
 use Rattle.ac_policy.specs.Laws.{HoldsIf}
 use Rattle.ac_policy.specs.State.{Shadow, state, element}
 use Rattle.ac_policy.specs.Terms.{term_of, first_index, second_index, constant_or}

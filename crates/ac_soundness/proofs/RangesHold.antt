@@ -20,8 +20,8 @@ use Rattle.ac_logic.specs.declared.formula.Formula.{Formula}
 use Rattle.ac_logic.specs.Meaning.{value}
 use Rattle.ac_policy.specs.BoundsLaws.{below}
 use Rattle.ac_policy.specs.Extents.{extent_term}
-use Rattle.ac_policy.specs.ExtentsHold.{extent_is}
-use Rattle.ac_policy.specs.FitsGives.{numbers-fit, has-sizes, front-nil, back-nil}
+use Rattle.ac_policy.specs.ExtentValues.{extent_is}
+use Rattle.ac_policy.specs.FittingStart.{numbers-fit, has-sizes, front-nil, back-nil}
 use Rattle.ac_policy.specs.GoodExtents.{HasGoodKind, HasSizes, IsGoodExtent}
 use Rattle.ac_policy.specs.State.{Shadow, Kept, cell, state, element, element_or, scalar_or}
 use Rattle.ac_conditions.specs.Ranges.{item_ranges, labelled_ranges, ranges}

@@ -22,7 +22,7 @@ use Rattle.ac_run.specs.declared.start.Start.{Start}
 use Rattle.ac_run.specs.Declarations.{NameBytes, Shape, Scalar, Vector, Matrix, kind_of, numbers_in, is_input_kind, shape, shape_in}
 use Rattle.ac_run.specs.Memory.{is_within, is_below, is_missing, place, place_in}
 use Rattle.ac_run.specs.Start.{count, Fits, is_held}
-use Rattle.ac_policy.specs.FitsGives.{numbers-fit, front-nil, back-nil}
+use Rattle.ac_policy.specs.FittingStart.{numbers-fit, front-nil, back-nil}
 use Rattle.ac_policy.specs.State.{IsScalar, cell}
 use Rattle.ac_soundness.proofs.Writes.{below_is, and_both}
 use Rattle.ac_soundness.specs.Opened.{hidden, expr_shape, expr_child, cond_shape, cond_child}

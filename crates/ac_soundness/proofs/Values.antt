@@ -23,7 +23,7 @@ use Rattle.ac_logic.specs.Meaning.{value}
 use Rattle.ac_logic.specs.Patterns.{Scalar}
 use Rattle.ac_policy.specs.declared.site.Site.{Site}
 use Rattle.ac_policy.specs.declared.site.SiteKind.TheVariants as kind
-use Rattle.ac_policy.specs.ExtentsHold.{literal_value}
+use Rattle.ac_policy.specs.ExtentValues.{literal_value}
 use Rattle.ac_policy.specs.Laws.{HasIndexesOf, LawNeed, HoldsIf, IsIndexed, cell_of, EventOf}
 use Rattle.ac_policy.specs.Sites.{site_at, read_sites, expr_sites, index_sites, unless_constant}
 use Rattle.ac_policy.specs.State.{Kept, Shadow, IsArray, IsScalar, cell, state, element_or, scalar_or}
