@@ -57,9 +57,10 @@ module _ (p : Program) (part : Part) where
   pub valid_enter : {k : _} (hs : List Formula) (t : Target) (row : Row_of-Stmt k) (fs : List Frame) → ValidBlock p part t hs row (path_formula p part t fs) → RestValid p part hs t fs → RestValid p part hs t (enter row fs)
   valid_enter hs t end_of-Stmt fs v h = h
   valid_enter hs t (more_of-Stmt n st rest) fs v h =
-      let e = sym (path_enter t rest fs) in
-      (subst (λ (behind : Option Formula). Valid p part t hs n.id st (past_barrier t n.id (part.behind n.id) behind)) e v.0,
-       (subst (λ (behind : Option Formula). FollowsBehind hs n.id (part.behind n.id) behind) e v.1, valid_enter hs t rest fs v.2 h))
+      let e = sym (path_enter t rest fs) in (
+        subst (λ (behind : Option Formula). Valid p part t hs n.id st (past_barrier t n.id (part.behind n.id) behind)) e v.0,
+        (subst (λ (behind : Option Formula). FollowsBehind hs n.id (part.behind n.id) behind) e v.1, valid_enter hs t rest fs v.2 h),
+      )
 
   pub facts_enter : {k : _} (base hs : List Formula) (w : Valuation) (row : Row_of-Stmt k) (fs : List Frame) → LoopFacts p part base hs w fs → LoopFacts p part base hs w (enter row fs)
   facts_enter base hs w end_of-Stmt fs h = h
@@ -72,9 +73,10 @@ module _ (p : Program) (part : Part) where
   pub valid_list : (base : List Formula) (t : Target) (sts : List Stmt) → ValidList p part t base sts None → RestValid p part base t (enter_list sts)
   valid_list base t [] v = tt
   valid_list base t (st ∷ sts) v =
-      let e = sym (path_list t sts) in
-      (subst (λ (behind : Option Formula). Valid p part t base st.node.id st.kind (past_barrier t st.node.id (part.behind st.node.id) behind)) e v.0,
-       (subst (λ (behind : Option Formula). FollowsBehind base st.node.id (part.behind st.node.id) behind) e v.1, valid_list base t sts v.2))
+      let e = sym (path_list t sts) in (
+        subst (λ (behind : Option Formula). Valid p part t base st.node.id st.kind (past_barrier t st.node.id (part.behind st.node.id) behind)) e v.0,
+        (subst (λ (behind : Option Formula). FollowsBehind base st.node.id (part.behind st.node.id) behind) e v.1, valid_list base t sts v.2),
+      )
 
   pub facts_list : (base : List Formula) (w : Valuation) (sts : List Stmt) → LoopFacts p part base base w (enter_list sts)
   facts_list base w [] = refl

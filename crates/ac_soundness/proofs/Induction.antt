@@ -75,7 +75,6 @@ just_above a b h k = let j = above a b h in grind (arith, ints)
 -- What holds at every start that a program is given, of one policy, is assumed below: `base` are the ranges of the inputs.
 module _ (p : Program) (start : Start) (part : Part) (shadow : List Event → Shadow) (Bad : List Event → Event → Type 0) (laws : MeetsLaws p start part shadow Bad)
     (base : List Formula) (given : (m : Memory) (s : Shadow) → Kept p start m → AllHold (state p start m s) base) where
-
   abbrev Invariant : Config → Type 0
   Invariant = RunInvariant p start part shadow Bad base
 
@@ -97,8 +96,16 @@ module _ (p : Program) (start : Start) (part : Part) (shadow : List Event → Sh
     pub facts : LoopFacts p part base hs (state p start c.memory (shadow c.trace)) fs
 
   later : (hs : List Formula) (ns : List NameBytes) (fs : List Frame) (c : Config) (trace : List Event) → Rest hs ns fs c → IsClean Bad [] trace → shadow trace ≡ shadow c.trace → Rest hs ns fs (record c { trace = trace })
-  later hs ns fs c trace r ok same = record { live = r.live; tasks = r.tasks; clean = ok; kept = r.kept; plain = r.plain; ranked = r.ranked; valid = r.valid;
-      facts = subst (λ (s : Shadow). LoopFacts p part base hs (state p start c.memory s) fs) (sym same) r.facts }
+  later hs ns fs c trace r ok same = record {
+    live = r.live;
+    tasks = r.tasks;
+    clean = ok;
+    kept = r.kept;
+    plain = r.plain;
+    ranked = r.ranked;
+    valid = r.valid;
+    facts = subst (λ (s : Shadow). LoopFacts p part base hs (state p start c.memory s) fs) (sym same) r.facts;
+  }
 
   going : (hs : List Formula) (ns : List NameBytes) (fs : List Frame) (c : Config) → Rest hs ns fs c → ((t : Target) → HoldsIf (here c) (Path t fs)) → Invariant c
   going hs ns fs c r h = inr (r.live, record { frames = fs; hypotheses = hs; names = ns; tasks = r.tasks; plain = behind_plain fs r.plain; ranked = r.ranked; valid = r.valid; clean = r.clean; facts = r.facts; paths = h; kept = r.kept })
@@ -121,10 +128,19 @@ module _ (p : Program) (start : Start) (part : Part) (shadow : List Event → Sh
     where
       ok : IsClean Bad [] (c.trace ++ (event.Write at n ∷ []))
       ok = clean_then Bad c.trace (event.Write at n) r.clean fine
+
       go : (b : Bool) → is_inside p start at ≡ b → Invariant (if b then record { tasks = c.tasks; memory = write p start c.memory at n; trace = c.trace ++ (event.Write at n ∷ []); has_halted = c.has_halted }
           else record { tasks = c.tasks; memory = c.memory; trace = c.trace ++ (event.Write at n ∷ []); has_halted = true })
-      go true e = going hs ns fs _ (record { live = r.live; tasks = r.tasks; clean = ok; kept = kept_write p start c.memory at n free r.kept; plain = r.plain; ranked = r.ranked; valid = r.valid;
-          facts = facts_kept p start part base c.memory at n (shadow c.trace) (shadow (c.trace ++ (event.Write at n ∷ []))) (λ x. laws.known.later c.memory (write p start c.memory at n) c.trace (event.Write at n) x) hs ns fs r.plain r.ranked apart r.facts }) (h e)
+      go true e = going hs ns fs _ (record {
+        live = r.live;
+        tasks = r.tasks;
+        clean = ok;
+        kept = kept_write p start c.memory at n free r.kept;
+        plain = r.plain;
+        ranked = r.ranked;
+        valid = r.valid;
+        facts = facts_kept p start part base c.memory at n (shadow c.trace) (shadow (c.trace ++ (event.Write at n ∷ []))) (λ x. laws.known.later c.memory (write p start c.memory at n) c.trace (event.Write at n) x) hs ns fs r.plain r.ranked apart r.facts;
+      }) (h e)
       go false e = inl (refl, ok)
 
   -- an assignment to a scalar
@@ -140,12 +156,12 @@ module _ (p : Program) (start : Start) (part : Part) (shadow : List Event → Sh
       let a = value w [] (term_of p e.kind) in
       let formed = laws.form.changes at (record { first = zero_plain; second = zero_plain }) in
       writing (scalar x) a hs ns fs c r k.2.free k.3 (laws.need m c.trace at (event.Write (scalar x) a) r.kept (zeros (shape p start x)) needed (a, refl))
-        (λ inside t.
-          let told = laws.effect.write m c.trace at a refl (zeros (shape p start x)) in
-          let room = subst (λ (z : ℕ). place p start (cell x (pos 0) (pos 0)) < z) (sym (r.kept.sizes x)) (k.2.room (pos 0) (pos 0) inside) in
-          let after = state_set p start m (shadow c.trace) (shadow (c.trace ++ (event.Write (scalar x) a ∷ []))) (part.effect at) formed told.numbers told.tables x (term_of p e.kind) k.0 room in
-          subst (λ (z : Valuation). HoldsIf z (Path t fs)) (sym after)
-            (from_changes w n (scalar_changes p part n x (term_of p e.kind)) (Path t fs) ((term_plain p e.kind).closed, closed_effect (part.effect at) formed) (h t)))
+      (λ inside t.
+      let told = laws.effect.write m c.trace at a refl (zeros (shape p start x)) in
+      let room = subst (λ (z : ℕ). place p start (cell x (pos 0) (pos 0)) < z) (sym (r.kept.sizes x)) (k.2.room (pos 0) (pos 0) inside) in
+      let after = state_set p start m (shadow c.trace) (shadow (c.trace ++ (event.Write (scalar x) a ∷ []))) (part.effect at) formed told.numbers told.tables x (term_of p e.kind) k.0 room in
+      subst (λ (z : Valuation). HoldsIf z (Path t fs)) (sym after)
+      (from_changes w n (scalar_changes p part n x (term_of p e.kind)) (Path t fs) ((term_plain p e.kind).closed, closed_effect (part.effect at) formed) (h t)))
 
   step_set : (st : Stmt) (n : NodeId) (x : NameBytes) (e : Expr) (hs : List Formula) (ns : List NameBytes) (fs : List Frame) (c : Config) → Rest hs ns fs c → RankedStmt p start ns (Set x e) →
       ((t : Target) → HoldsIf (here c) (before p part t n (Set x e) (Path t fs))) → Invariant (step_statement p start st (Set x e) c)
@@ -157,11 +173,11 @@ module _ (p : Program) (start : Start) (part : Part) (shadow : List Event → Sh
       let needs = sites_hold part.need w (scalar_write n x ∷ expr_sites p e.node.id e.kind) (λ t. (j t).0) in
       let v = expr_gives p start shadow Bad part.need laws.need m (shadow c.trace) r.kept e.node.id e.kind k.1 needs.1 in
       reading (value_of p start m e.kind) (λ a. value w [] (term_of p e.kind) ≡ a) (λ a. written p start (scalar x) a) c r.clean v.0 v.1
-        (λ trace ok same a ea.
-          let done = set_end n x e hs ns fs (record c { trace = trace }) (later hs ns fs c trace r ok same) k
-                (subst (λ (s : Shadow). HoldsIf (state p start m s) (part.need (scalar_write n x))) (sym same) needs.0)
-                (λ t. subst (λ (s : Shadow). HoldsIf (state p start m s) (before_changes n changes (Path t fs))) (sym same) (j t).1) in
-          subst (λ (z : ℤ). Invariant (written p start (scalar x) z (record c { trace = trace }))) (ap (λ (s : Shadow). value (state p start m s) [] (term_of p e.kind)) same ∙ ea) done)
+      (λ trace ok same a ea.
+      let done = set_end n x e hs ns fs (record c { trace = trace }) (later hs ns fs c trace r ok same) k
+      (subst (λ (s : Shadow). HoldsIf (state p start m s) (part.need (scalar_write n x))) (sym same) needs.0)
+      (λ t. subst (λ (s : Shadow). HoldsIf (state p start m s) (before_changes n changes (Path t fs))) (sym same) (j t).1) in
+      subst (λ (z : ℤ). Invariant (written p start (scalar x) z (record c { trace = trace }))) (ap (λ (s : Shadow). value (state p start m s) [] (term_of p e.kind)) same ∙ ea) done)
 
   -- an assignment to an element
   put_end : (n : NodeId) (x : NameBytes) (ix : Index) (e : Expr) (hs : List Formula) (ns : List NameBytes) (fs : List Frame) (c : Config) → Rest hs ns fs c → RankedStmt p start ns (Put x ix e) →
@@ -178,12 +194,12 @@ module _ (p : Program) (start : Start) (part : Part) (shadow : List Event → Sh
       let j = second_plain p ix in
       let formed = laws.form.changes at (record { first = i; second = j }) in
       writing (cell_of w at) a hs ns fs c r k.3.free k.4 (laws.need m c.trace at (event.Write (cell_of w at) a) r.kept (indexed_by p (shape p start x) ix k.0) needed (a, refl))
-        (λ inside t.
-          let told = laws.effect.write m c.trace at a refl (indexed_by p (shape p start x) ix k.0) in
-          let room = subst (λ (z : ℕ). place p start (cell_of w at) < z) (sym (r.kept.sizes x)) (k.3.room (value w [] (first_index p ix)) (value w [] (second_index p ix)) inside) in
-          let after = state_put p start m (shadow c.trace) (shadow (c.trace ++ (event.Write (cell_of w at) a ∷ []))) (part.effect at) formed told.numbers told.tables x (first_index p ix) (second_index p ix) (term_of p e.kind) (indexed_array (shape p start x) ix k.0) inside room in
-          subst (λ (z : Valuation). HoldsIf z (Path t fs)) (sym after)
-            (from_changes w n (element_changes p part n x ix (term_of p e.kind)) (Path t fs) ((tt, i.closed, j.closed, (term_plain p e.kind).closed), closed_effect (part.effect at) formed) (h t)))
+      (λ inside t.
+      let told = laws.effect.write m c.trace at a refl (indexed_by p (shape p start x) ix k.0) in
+      let room = subst (λ (z : ℕ). place p start (cell_of w at) < z) (sym (r.kept.sizes x)) (k.3.room (value w [] (first_index p ix)) (value w [] (second_index p ix)) inside) in
+      let after = state_put p start m (shadow c.trace) (shadow (c.trace ++ (event.Write (cell_of w at) a ∷ []))) (part.effect at) formed told.numbers told.tables x (first_index p ix) (second_index p ix) (term_of p e.kind) (indexed_array (shape p start x) ix k.0) inside room in
+      subst (λ (z : Valuation). HoldsIf z (Path t fs)) (sym after)
+      (from_changes w n (element_changes p part n x ix (term_of p e.kind)) (Path t fs) ((tt, i.closed, j.closed, (term_plain p e.kind).closed), closed_effect (part.effect at) formed) (h t)))
 
   step_put : (st : Stmt) (n : NodeId) (x : NameBytes) (ix : Index) (e : Expr) (hs : List Formula) (ns : List NameBytes) (fs : List Frame) (c : Config) → Rest hs ns fs c → RankedStmt p start ns (Put x ix e) →
       ((t : Target) → HoldsIf (here c) (before p part t n (Put x ix e) (Path t fs))) → Invariant (step_statement p start st (Put x ix e) c)
@@ -197,14 +213,14 @@ module _ (p : Program) (start : Start) (part : Part) (shadow : List Event → Sh
       let reads = needs-append part.need w (index_sites p ix) (expr_sites p e.node.id e.kind) needs.1 in
       let vi : ℤ × ℤ = (value w [] (first_index p ix), value w [] (second_index p ix)) in
       let v = pair_gives shadow Bad (shadow c.trace) (indexes_of p start m ix) (value_of p start m e.kind) (λ a b. (a, b)) vi (value w [] (term_of p e.kind))
-            (index_gives p start shadow Bad part.need laws.need m (shadow c.trace) r.kept ix k.1 reads.0) (expr_gives p start shadow Bad part.need laws.need m (shadow c.trace) r.kept e.node.id e.kind k.2 reads.1) in
+      (index_gives p start shadow Bad part.need laws.need m (shadow c.trace) r.kept ix k.1 reads.0) (expr_gives p start shadow Bad part.need laws.need m (shadow c.trace) r.kept e.node.id e.kind k.2 reads.1) in
       reading (both (indexes_of p start m ix) (value_of p start m e.kind)) (λ a. (vi, value w [] (term_of p e.kind)) ≡ a) (λ a. written p start (cell x a.0.0 a.0.1) a.1) c r.clean v.0 v.1
-        (λ trace ok same a ea.
-          let done = put_end n x ix e hs ns fs (record c { trace = trace }) (later hs ns fs c trace r ok same) k
-                (subst (λ (s : Shadow). HoldsIf (state p start m s) (part.need at)) (sym same) needs.0)
-                (λ t. subst (λ (s : Shadow). HoldsIf (state p start m s) (before_changes n changes (Path t fs))) (sym same) (j t).1) in
-          subst (λ (z : (ℤ × ℤ) × ℤ). Invariant (written p start (cell x z.0.0 z.0.1) z.1 (record c { trace = trace })))
-            (ap (λ (s : Shadow). ((value (state p start m s) [] (first_index p ix), value (state p start m s) [] (second_index p ix)), value (state p start m s) [] (term_of p e.kind))) same ∙ ea) done)
+      (λ trace ok same a ea.
+      let done = put_end n x ix e hs ns fs (record c { trace = trace }) (later hs ns fs c trace r ok same) k
+      (subst (λ (s : Shadow). HoldsIf (state p start m s) (part.need at)) (sym same) needs.0)
+      (λ t. subst (λ (s : Shadow). HoldsIf (state p start m s) (before_changes n changes (Path t fs))) (sym same) (j t).1) in
+      subst (λ (z : (ℤ × ℤ) × ℤ). Invariant (written p start (cell x z.0.0 z.0.1) z.1 (record c { trace = trace })))
+      (ap (λ (s : Shadow). ((value (state p start m s) [] (first_index p ix), value (state p start m s) [] (second_index p ix)), value (state p start m s) [] (term_of p e.kind))) same ∙ ea) done)
 
   -- a `use`
   step_hand : (st : Stmt) (n : NodeId) (x role : NameBytes) (hs : List Formula) (ns : List NameBytes) (fs : List Frame) (c : Config) → Rest hs ns fs c →
@@ -227,16 +243,24 @@ module _ (p : Program) (start : Start) (part : Part) (shadow : List Event → Sh
       ((t : Target) → HoldsIf (here c) (before_block p part t row (Path t fs))) → Invariant (go_to (map Do (block row)) c)
   entering row hs ns fs c r k v h =
       going hs ns (enter row fs) (go_to (map Do (block row)) c)
-        (record { live = r.live; tasks = tasks_enter row fs ∙ ap (λ ts. map Do (block row) ++ ts) r.tasks; clean = r.clean; kept = r.kept; plain = plain_enter row fs r.plain; facts = facts_enter p part base hs _ row fs r.facts; ranked = ranked_enter p start ns row fs k r.ranked;
-                  valid = λ t. valid_enter p part hs t row fs (v t) (r.valid t) })
-        (λ t. subst (λ (Q : Option Formula). HoldsIf (here c) Q) (sym (path_enter p part t row fs)) (h t))
+      (record {
+        live = r.live;
+        tasks = tasks_enter row fs ∙ ap (λ ts. map Do (block row) ++ ts) r.tasks;
+        clean = r.clean;
+        kept = r.kept;
+        plain = plain_enter row fs r.plain;
+        facts = facts_enter p part base hs _ row fs r.facts;
+        ranked = ranked_enter p start ns row fs k r.ranked;
+        valid = λ t. valid_enter p part hs t row fs (v t) (r.valid t);
+      })
+      (λ t. subst (λ (Q : Option Formula). HoldsIf (here c) Q) (sym (path_enter p part t row fs)) (h t))
 
   -- an `if`
   step_if : {a b : _} (n : NodeId) (test : Cond) (y : Row_of-Stmt a) (z : Row_of-Stmt b) (hs : List Formula) (ns : List NameBytes) (fs : List Frame) (c : Config) → Rest hs ns fs c →
       RankedCond p start test.kind → RankedBlock p start ns y → RankedBlock p start ns z →
       ((t : Target) → ValidBlock p part t hs y (Path t fs)) → ((t : Target) → ValidBlock p part t hs z (Path t fs)) →
       ((t : Target) → HoldsIf (here c) (conjoined (cond_goal part.need t p test.kind)
-          (conjoined (under label.Test n (formula_of p test.kind) (before_block p part t y (Path t fs))) (under label.Denied n (Negation (formula_of p test.kind)) (before_block p part t z (Path t fs)))))) →
+      (conjoined (under label.Test n (formula_of p test.kind) (before_block p part t y (Path t fs))) (under label.Denied n (Negation (formula_of p test.kind)) (before_block p part t z (Path t fs)))))) →
       Invariant (with_reading (truth_of p start c.memory test.kind) (λ b. go_to (map Do (if b then block y else block z))) c)
   unfolding hidden formula_shape formula_child
   step_if n test y z hs ns fs c r kc ky kz vy vz h =
@@ -249,11 +273,12 @@ module _ (p : Program) (start : Start) (part : Part) (shadow : List Event → Sh
       let k = λ (t : Target). from_conjoined w (yes_ t) (no_ t) (j t).1 in
       let told = cond_tells p start shadow Bad part.need laws.need m (shadow c.trace) r.kept test.kind kc (cond_holds part.need w p test.kind (λ t. (j t).0)) in
       reading (truth_of p start m test.kind) (λ b. Says b (Holds w F)) (λ b. go_to (map Do (if b then block y else block z))) c r.clean told.0 told.1
-        (λ trace ok same. elim
-          [ true ↦ λ f. entering y hs ns fs (record c { trace = trace }) (later hs ns fs c trace r ok same) ky vy
-              (λ t. subst (λ (s : Shadow). HoldsIf (state p start m s) (before_block p part t y (Path t fs))) (sym same) (from_under w label.Test n F (before_block p part t y (Path t fs)) (k t).0 f))
-          | false ↦ λ f. entering z hs ns fs (record c { trace = trace }) (later hs ns fs c trace r ok same) kz vz
-              (λ t. subst (λ (s : Shadow). HoldsIf (state p start m s) (before_block p part t z (Path t fs))) (sym same) (from_under w label.Denied n (Negation F) (before_block p part t z (Path t fs)) (k t).1 f)) ])
+      (λ trace ok same. elim [
+        | true ↦ λ f. entering y hs ns fs (record c { trace = trace }) (later hs ns fs c trace r ok same) ky vy
+            (λ t. subst (λ (s : Shadow). HoldsIf (state p start m s) (before_block p part t y (Path t fs))) (sym same) (from_under w label.Test n F (before_block p part t y (Path t fs)) (k t).0 f))
+        | false ↦ λ f. entering z hs ns fs (record c { trace = trace }) (later hs ns fs c trace r ok same) kz vz
+            (λ t. subst (λ (s : Shadow). HoldsIf (state p start m s) (before_block p part t z (Path t fs))) (sym same) (from_under w label.Denied n (Negation F) (before_block p part t z (Path t fs)) (k t).1 f))
+      ])
 
   -- a `while`: its body, and then its test again
   turning : (st : Stmt) {a : _} (body : Row_of-Stmt a) (hs : List Formula) (ns : List NameBytes) (fs : List Frame) (c : Config) → Rest hs ns fs c → IsWhile st.kind → RankedStmt p start ns st.kind → RankedBlock p start ns body →
@@ -284,11 +309,12 @@ module _ (p : Program) (start : Start) (part : Part) (shadow : List Event → Sh
       let j = λ (t : Target). from_conjoined w (cond_goal part.need t p test.kind) (under label.Test n F (B t)) (head t w (hypotheses-append w hs (invariants p part n) hold facts)) in
       let told = cond_tells p start shadow Bad part.need laws.need m (shadow c.trace) r.kept test.kind kc (cond_holds part.need w p test.kind (λ t. (j t).0)) in
       reading (truth_of p start m test.kind) (λ b. Says b (Holds w F)) (λ b. go_to (if b then map Do (block body) ++ Do st ∷ [] else [])) c r.clean told.0 told.1
-        (λ trace ok same. elim
-          [ true ↦ λ f. turning st body hs ns fs (record c { trace = trace }) (later hs ns fs c trace r ok same) i k kb v vb
-              (λ t. subst (λ (s : Shadow). HoldsIf (state p start m s) (B t)) (sym same) (from_under w label.Test n F (B t) (j t).1 f))
-          | false ↦ λ f. going hs ns fs (record c { trace = trace }) (later hs ns fs c trace r ok same)
-              (λ t. subst (λ (s : Shadow). HoldsIf (state p start m s) (Path t fs)) (sym same) (exit t w (hypotheses-append w hs (at_while_exit p part n test ∷ invariants p part n) hold (f, facts)))) ])
+      (λ trace ok same. elim [
+        | true ↦ λ f. turning st body hs ns fs (record c { trace = trace }) (later hs ns fs c trace r ok same) i k kb v vb
+            (λ t. subst (λ (s : Shadow). HoldsIf (state p start m s) (B t)) (sym same) (from_under w label.Test n F (B t) (j t).1 f))
+        | false ↦ λ f. going hs ns fs (record c { trace = trace }) (later hs ns fs c trace r ok same)
+            (λ t. subst (λ (s : Shadow). HoldsIf (state p start m s) (Path t fs)) (sym same) (exit t w (hypotheses-append w hs (at_while_exit p part n test ∷ invariants p part n) hold (f, facts))))
+      ])
 
   -- the invariant of a loop, once it was entered or kept
   from_entry : (w : Valuation) (n : NodeId) → ((t : Target) → HoldsIf w (while_entry p part t n)) → AllHold w (invariants p part n)
@@ -318,6 +344,7 @@ module _ (p : Program) (start : Start) (part : Part) (shadow : List Event → Sh
     where
       ok : IsClean Bad [] (c.trace ++ (event.Write (scalar l.name) (value (state p start c.memory (shadow c.trace)) [] e) ∷ []))
       ok = clean_then Bad c.trace (event.Write (scalar l.name) (value (state p start c.memory (shadow c.trace)) [] e)) r.clean (laws.for_write c.trace l.name (value (state p start c.memory (shadow c.trace)) [] e) k.0)
+
       go : (b : Bool) → is_inside p start (scalar l.name) ≡ b → Invariant (go_to (Compare l.name v (block l.body) ∷ []) (if b then record { tasks = c.tasks; memory = write p start c.memory (scalar l.name) (value (state p start c.memory (shadow c.trace)) [] e); trace = c.trace ++ (event.Write (scalar l.name) (value (state p start c.memory (shadow c.trace)) [] e) ∷ []); has_halted = c.has_halted }
           else record { tasks = c.tasks; memory = c.memory; trace = c.trace ++ (event.Write (scalar l.name) (value (state p start c.memory (shadow c.trace)) [] e) ∷ []); has_halted = true }))
       go false q = inl (refl, ok)
@@ -341,12 +368,27 @@ module _ (p : Program) (start : Start) (part : Part) (shadow : List Event → Sh
           let low2 = term_stable p start c.memory (scalar l.name) b s2 (shadow c.trace) l.lo.kind reads.0 in
           let low3 : value w2 [] (term_of p l.lo.kind) ≤ℤ w2.number (Value l.name) = subst (λ (T : Type 0). T) (λ d. sym low2 d ≤ℤ sym x_is d) low in
           let alt2 : NearEnd p part w2 l v =
-                elim alt [ inl y ↦ inl (x_is ∙ y ∙ sym low2) | inr y ↦ inr (subst (λ (z : ℤ). z ≤ℤ (v +ℤ pos 1)) (sym x_is) y) ] in
-          inr (r.live, record { frames = ForTest l v ∷ fs; hypotheses = hs; names = ns; tasks = ap (λ ts. Compare l.name v (block l.body) ∷ ts) r.tasks; clean = ok;
-            kept = kept_write p start c.memory (scalar l.name) b k.3.free r.kept; plain = r.plain; ranked = (k, r.ranked); valid = λ t. (valid t, r.valid t);
-            facts = ((high2 ∙ high, low3, laws.known.written m2 c.trace l.name b k.0), alt2,
-              facts_kept p start part base c.memory (scalar l.name) b (shadow c.trace) s2 (λ x. laws.known.later c.memory m2 c.trace (event.Write (scalar l.name) b) x) hs ns fs r.plain r.ranked k.4 r.facts);
-            paths = λ t. goal_anywhere w2 _ (labelled label.Entry l.node J) con2 })
+          elim alt [ inl y ↦ inl (x_is ∙ y ∙ sym low2) | inr y ↦ inr (subst (λ (z : ℤ). z ≤ℤ (v +ℤ pos 1)) (sym x_is) y) ] in
+          inr (
+            r.live,
+            record {
+              frames = ForTest l v ∷ fs;
+              hypotheses = hs;
+              names = ns;
+              tasks = ap (λ ts. Compare l.name v (block l.body) ∷ ts) r.tasks;
+              clean = ok;
+              kept = kept_write p start c.memory (scalar l.name) b k.3.free r.kept;
+              plain = r.plain;
+              ranked = (k, r.ranked);
+              valid = λ t. (valid t, r.valid t);
+              facts = (
+                (high2 ∙ high, low3, laws.known.written m2 c.trace l.name b k.0),
+                alt2,
+                facts_kept p start part base c.memory (scalar l.name) b (shadow c.trace) s2 (λ x. laws.known.later c.memory m2 c.trace (event.Write (scalar l.name) b) x) hs ns fs r.plain r.ranked k.4 r.facts,
+              );
+              paths = λ t. goal_anywhere w2 _ (labelled label.Entry l.node J) con2;
+            },
+          )
 
   -- it is entered
   step_for : (l : Loop) (hs : List Formula) (ns : List NameBytes) (fs : List Frame) (c : Config) → Rest hs ns fs c → RankedLoop p start ns l → ((t : Target) → ValidLoop p part hs t l (Path t fs)) →
@@ -361,16 +403,16 @@ module _ (p : Program) (start : Start) (part : Part) (shadow : List Event → Sh
       let highs = expr_sites p l.hi.node.id l.hi.kind in
       let needs = needs-append part.need w lows highs (sites_hold part.need w (lows ++ highs) (λ t. (j t).0)) in
       let told = pair_gives shadow Bad (shadow c.trace) (value_of p start m l.lo.kind) (value_of p start m l.hi.kind) (λ a b. (a, b)) (value w [] (term_of p l.lo.kind)) (value w [] (term_of p l.hi.kind))
-            (expr_gives p start shadow Bad part.need laws.need m (shadow c.trace) r.kept l.lo.node.id l.lo.kind k.1 needs.0) (expr_gives p start shadow Bad part.need laws.need m (shadow c.trace) r.kept l.hi.node.id l.hi.kind k.2 needs.1) in
+      (expr_gives p start shadow Bad part.need laws.need m (shadow c.trace) r.kept l.lo.node.id l.lo.kind k.1 needs.0) (expr_gives p start shadow Bad part.need laws.need m (shadow c.trace) r.kept l.hi.node.id l.hi.kind k.2 needs.1) in
       let F = formula_after (scalar_changes p part l.node l.name (term_of p l.lo.kind)) (joined (part.invariant l.node)) in
       let con : Holds w F = goal_here w l.node.0 (labelled label.Entry l.node F) (j (target.Entry l.node)).1 in
       reading (both (value_of p start m l.lo.kind) (value_of p start m l.hi.kind)) (λ a. (value w [] (term_of p l.lo.kind), value w [] (term_of p l.hi.kind)) ≡ a)
-        (λ a d. go_to (Compare l.name a.1 (block l.body) ∷ []) (written p start (scalar l.name) a.0 d)) c r.clean told.0 told.1
-        (λ trace ok same a ea.
-          let done = arriving l (value (state p start m (shadow trace)) [] (term_of p l.hi.kind)) (term_of p l.lo.kind) hs ns fs (record c { trace = trace }) (later hs ns fs c trace r ok same) k valid (term_plain p l.lo.kind)
-                (subst (λ (s : Shadow). Holds (state p start m s) F) (sym same) con) refl (le_same _) (inl refl) in
-          subst (λ (z : ℤ × ℤ). Invariant (go_to (Compare l.name z.1 (block l.body) ∷ []) (written p start (scalar l.name) z.0 (record c { trace = trace }))))
-            (ap (λ (s : Shadow). (value (state p start m s) [] (term_of p l.lo.kind), value (state p start m s) [] (term_of p l.hi.kind))) same ∙ ea) done)
+      (λ a d. go_to (Compare l.name a.1 (block l.body) ∷ []) (written p start (scalar l.name) a.0 d)) c r.clean told.0 told.1
+      (λ trace ok same a ea.
+      let done = arriving l (value (state p start m (shadow trace)) [] (term_of p l.hi.kind)) (term_of p l.lo.kind) hs ns fs (record c { trace = trace }) (later hs ns fs c trace r ok same) k valid (term_plain p l.lo.kind)
+      (subst (λ (s : Shadow). Holds (state p start m s) F) (sym same) con) refl (le_same _) (inl refl) in
+      subst (λ (z : ℤ × ℤ). Invariant (go_to (Compare l.name z.1 (block l.body) ∷ []) (written p start (scalar l.name) z.0 (record c { trace = trace }))))
+      (ap (λ (s : Shadow). (value (state p start m s) [] (term_of p l.lo.kind), value (state p start m s) [] (term_of p l.hi.kind))) same ∙ ea) done)
 
   -- a turn of it ends
   step_turn : (l : Loop) (v : ℤ) (hs : List Formula) (ns : List NameBytes) (fs : List Frame) (c : Config) → Rest hs ns fs c → RankedLoop p start ns l → ((t : Target) → ValidLoop p part hs t l (Path t fs)) →
@@ -397,20 +439,28 @@ module _ (p : Program) (start : Start) (part : Part) (shadow : List Event → Sh
       let hs2 = hs ++ in_body p part l.node l.name l.lo l.hi ∷ [] in
       let ns2 : List NameBytes = l.name ∷ (ends_names l.lo l.hi ++ ns) in
       let c2 = record c { tasks = Advance l.name v (block l.body) ∷ c.tasks } in
-      let r2 : Rest hs2 ns2 (ForTurn l v hs ns ∷ fs) c2 = record { live = r.live; tasks = ap (λ ts. Advance l.name v (block l.body) ∷ ts) r.tasks; clean = r.clean; kept = r.kept; plain = r.plain;
-            ranked = (refl, k, r.ranked); valid = λ t. (refl, valid t, r.valid t); facts = (refl, keeps, small, r.facts) } in
+      let r2 : Rest hs2 ns2 (ForTurn l v hs ns ∷ fs) c2 = record {
+        live = r.live;
+        tasks = ap (λ ts. Advance l.name v (block l.body) ∷ ts) r.tasks;
+        clean = r.clean;
+        kept = r.kept;
+        plain = r.plain;
+        ranked = (refl, k, r.ranked);
+        valid = λ t. (refl, valid t, r.valid t);
+        facts = (refl, keeps, small, r.facts);
+      } in
       let B = λ (t : Target). before_block p part t l.body (for_keep p part t l.node l.name) in
       let at_hi : w.number (Value l.name) ≤ℤ value w [] (term_of p l.hi.kind) = subst (λ (z : ℤ). w.number (Value l.name) ≤ℤ z) (sym keeps.0) small in
       let done = entering l.body hs2 ns2 (ForTurn l v hs ns ∷ fs) c2 r2 k.6 (λ t. (valid t).2)
-            (λ t. from_under w label.Test l.node (Le (variable l.name) (term_of p l.hi.kind)) (B t)
-              ((valid t).0 w (hypotheses-append w hs (at_for_test p part l.node l.name l.lo ∷ invariants p part l.node) (hyps_hold hs ns fs c r) (and_holds w _ (part.known l.name) keeps.1 keeps.2, facts))) at_hi) in
+      (λ t. from_under w label.Test l.node (Le (variable l.name) (term_of p l.hi.kind)) (B t)
+      ((valid t).0 w (hypotheses-append w hs (at_for_test p part l.node l.name l.lo ∷ invariants p part l.node) (hyps_hold hs ns fs c r) (and_holds w _ (part.known l.name) keeps.1 keeps.2, facts))) at_hi) in
       subst (λ (ts : List Task). Invariant (record c { tasks = ts })) (sym (append_assoc (map Do (block l.body)) (Advance l.name v (block l.body) ∷ []) c.tasks)) done
   step_test l v hs ns fs c r k valid keeps near facts false large =
       let w = state p start c.memory (shadow c.trace) in
       let x = w.number (Value l.name) in
       let past_hi : (value w [] (term_of p l.hi.kind) +ℤ pos 1) ≤ℤ x = subst (λ (z : ℤ). (z +ℤ pos 1) ≤ℤ x) (sym keeps.0) (above _ _ large) in
       let either : ¬ (x ≡ value w [] (term_of p l.lo.kind)) → ¬ (x ≡ value w [] (term_of p l.hi.kind) +ℤ pos 1) → ⊥ = λ np nq.
-            elim near [ inl y ↦ np y | inr y ↦ nq (just_above _ _ large y ∙ ap (λ z. z +ℤ pos 1) (sym keeps.0)) ] in
+      elim near [ inl y ↦ np y | inr y ↦ nq (just_above _ _ large y ∙ ap (λ z. z +ℤ pos 1) (sym keeps.0)) ] in
       going hs ns fs c r (λ t. (valid t).1 w (hypotheses-append w hs (at_for_exit p part l.node l.name l.lo l.hi ∷ invariants p part l.node) (hyps_hold hs ns fs c r) (and_holds w _ (part.known l.name) (past_hi, either) keeps.2, facts)))
 
   testing : (l : Loop) (v : ℤ) (hs : List Formula) (ns : List NameBytes) (fs : List Frame) (c : Config) → Rest hs ns fs c → RankedLoop p start ns l → ((t : Target) → ValidLoop p part hs t l (Path t fs)) →
@@ -419,7 +469,7 @@ module _ (p : Program) (start : Start) (part : Part) (shadow : List Event → Sh
   testing l v hs ns fs c r k valid keeps near facts =
       let x = number_at p start c.memory (scalar l.name) in
       step_test l v hs ns fs c r k valid keeps near facts (int_le x v)
-        (subst (λ (z : ℤ). Says (int_le x v) (z ≤ℤ v)) (sym (is_scalar (shape p start l.name) _ k.0)) (le_says x v (int_le x v) refl))
+      (subst (λ (z : ℤ). Says (int_le x v) (z ≤ℤ v)) (sym (is_scalar (shape p start l.name) _ k.0)) (le_says x v (int_le x v) refl))
 
   -- a statement for the first time
   step_fresh : (n : Node) (k : StmtKind) (hs : List Formula) (ns : List NameBytes) (fs : List Frame) (c : Config) → Rest hs ns fs c → RankedStmt p start ns k → ((t : Target) → Valid p part t hs n.id k (Path t fs)) →
@@ -453,21 +503,21 @@ module _ (p : Program) (start : Start) (part : Part) (shadow : List Event → Sh
       going hs ns [] c (record { live = live; tasks = tasks; clean = clean; kept = kept; plain = tt; ranked = ranked; valid = valid; facts = facts }) h
   step_frames (Statement st ∷ fs) hs ns c live tasks clean kept plain ranked valid facts h =
       step_fresh st.node st.kind hs ns fs (record c { tasks = tasks_of fs })
-        (record { live = live; tasks = refl; clean = clean; kept = kept; plain = plain; ranked = ranked.1; valid = λ t. (valid t).1; facts = facts }) ranked.0 (λ t. (valid t).0) h
+      (record { live = live; tasks = refl; clean = clean; kept = kept; plain = plain; ranked = ranked.1; valid = λ t. (valid t).1; facts = facts }) ranked.0 (λ t. (valid t).0) h
   step_frames (WhileAgain st ∷ fs) hs ns c live tasks clean kept plain ranked valid facts h =
       step_again st.node st.kind hs ns fs (record c { tasks = tasks_of fs })
-        (record { live = live; tasks = refl; clean = clean; kept = kept; plain = plain; ranked = ranked.2; valid = λ t. (valid t).1; facts = facts }) ranked.0 ranked.1 (λ t. (valid t).0) h
+      (record { live = live; tasks = refl; clean = clean; kept = kept; plain = plain; ranked = ranked.2; valid = λ t. (valid t).1; facts = facts }) ranked.0 ranked.1 (λ t. (valid t).0) h
   step_frames (EndOf n ∷ fs) hs ns c live tasks clean kept plain ranked valid facts h =
       let w = state p start c.memory (shadow c.trace) in
       step_frames fs hs ns c live tasks clean kept (behind_plain fs plain) ranked (λ t. (valid t).1) facts
-        (past hs w n (part.behind n) (λ t. Path t fs) (always p start part base w hs fs facts (given c.memory (shadow c.trace) kept)) h (λ t. (valid t).0))
+      (past hs w n (part.behind n) (λ t. Path t fs) (always p start part base w hs fs facts (given c.memory (shadow c.trace) kept)) h (λ t. (valid t).0))
   step_frames (ForTest l v ∷ fs) hs ns c live tasks clean kept plain ranked valid facts h =
       testing l v hs ns fs (record c { tasks = tasks_of fs })
-        (record { live = live; tasks = refl; clean = clean; kept = kept; plain = plain; ranked = ranked.1; valid = λ t. (valid t).1; facts = facts.2 }) ranked.0 (λ t. (valid t).0) facts.0 facts.1
-        (from_entry (here c) l.node h)
+      (record { live = live; tasks = refl; clean = clean; kept = kept; plain = plain; ranked = ranked.1; valid = λ t. (valid t).1; facts = facts.2 }) ranked.0 (λ t. (valid t).0) facts.0 facts.1
+      (from_entry (here c) l.node h)
   step_frames (ForTurn l v gs ms ∷ fs) hs ns c live tasks clean kept plain ranked valid facts h =
       step_turn l v gs ms fs (record c { tasks = tasks_of fs })
-        (record { live = live; tasks = refl; clean = clean; kept = kept; plain = plain; ranked = ranked.2; valid = λ t. (valid t).2; facts = facts.3 }) ranked.1 (λ t. (valid t).1) facts.1 facts.2 h
+      (record { live = live; tasks = refl; clean = clean; kept = kept; plain = plain; ranked = ranked.2; valid = λ t. (valid t).2; facts = facts.3 }) ranked.1 (λ t. (valid t).1) facts.1 facts.2 h
 
   -- each step keeps the invariant
   pub step_keeps : (c : Config) → RunInvariant p start part shadow Bad base c → RunInvariant p start part shadow Bad base (step p start c)
@@ -475,7 +525,7 @@ module _ (p : Program) (start : Start) (part : Part) (shadow : List Event → Sh
   step_keeps c (inr h) =
       let g = h.1 in
       let one : Invariant (step_first p start c.tasks c) = subst (λ (ts : List Task). Invariant (step_first p start ts c)) g.tasks
-            (step_frames g.frames g.hypotheses g.names c h.0 g.tasks g.clean g.kept g.plain g.ranked g.valid g.facts g.paths) in
+      (step_frames g.frames g.hypotheses g.names c h.0 g.tasks g.clean g.kept g.plain g.ranked g.valid g.facts g.paths) in
       subst (λ b. Invariant (if b then c else step_first p start c.tasks c)) (sym h.0) one
 
   module _ (ranked : RankedList p start [] p.body) (valid : (t : Target) → Follows base (before_list p part t p.body None) × ValidList p part t base p.body None) where
@@ -483,9 +533,22 @@ module _ (p : Program) (start : Start) (part : Part) (shadow : List Event → Sh
     at_start : RunInvariant p start part shadow Bad base (begin p start)
     at_start =
         let k : Kept p start start.cells = record { sizes = λ x. refl; inputs = λ x e. refl } in
-        inr (refl, record { frames = enter_list p.body; hypotheses = base; names = []; tasks = tasks_list p.body; clean = tt; kept = k; plain = behind_plain (enter_list p.body) (plain_list p.body);
-            ranked = ranked_list p start p.body ranked; valid = λ t. valid_list p part base t p.body (valid t).1; facts = facts_list p part base (state p start start.cells (shadow [])) p.body;
-            paths = λ t. subst (λ (Q : Option Formula). HoldsIf (state p start start.cells (shadow [])) Q) (sym (path_list p part t p.body)) ((valid t).0 (state p start start.cells (shadow [])) (given start.cells (shadow []) k)) })
+        inr (
+          refl,
+          record {
+            frames = enter_list p.body;
+            hypotheses = base;
+            names = [];
+            tasks = tasks_list p.body;
+            clean = tt;
+            kept = k;
+            plain = behind_plain (enter_list p.body) (plain_list p.body);
+            ranked = ranked_list p start p.body ranked;
+            valid = λ t. valid_list p part base t p.body (valid t).1;
+            facts = facts_list p part base (state p start start.cells (shadow [])) p.body;
+            paths = λ t. subst (λ (Q : Option Formula). HoldsIf (state p start start.cells (shadow [])) Q) (sym (path_list p part t p.body)) ((valid t).0 (state p start start.cells (shadow [])) (given start.cells (shadow []) k));
+          },
+        )
 
     throughout : (n : ℕ) → RunInvariant p start part shadow Bad base (run p start n)
     throughout zero = at_start

@@ -37,5 +37,5 @@ differ p start x y true e f g = absurd (false≢true (sym f ∙ ap (is_input p) 
 pub kept_write : (p : Program) (start : Start) (m : Memory) (c : Cell) (n : ℤ) → is_input p c.name ≡ false → Kept p start m → Kept p start (write p start m c n)
 kept_write p start m c n f k = record {
   sizes = λ y. size_set m c.name y (set (numbers_in m c.name) (place p start c) n) (length-set (numbers_in m c.name) (place p start c) n) ∙ k.sizes y;
-  inputs = λ y h. numbers_other m c.name y (set (numbers_in m c.name) (place p start c) n) (differ p start c.name y (bytes_eq c.name y) refl f h) ∙ k.inputs y h
+  inputs = λ y h. numbers_other m c.name y (set (numbers_in m c.name) (place p start c) n) (differ p start c.name y (bytes_eq c.name y) refl f h) ∙ k.inputs y h;
 }

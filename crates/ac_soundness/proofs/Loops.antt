@@ -40,6 +40,7 @@ module _ (p : Program) (start : Start) (m : Memory) (c : Cell) (n : ℤ) (r s : 
 
   mutual
     unfolding hidden expr_shape expr_child term_shape term_child array_shape array_child
+
     pub term_stable : (e : ExprKind) → NotIn c.name (read_names e) → value (state p start (write p start m c n) r) [] (term_of p e) ≡ value (state p start m s) [] (term_of p e)
     term_stable (Num k) h = literal_value (state p start (write p start m c n) r) [] k ∙ sym (literal_value (state p start m s) [] k)
     term_stable (Get x) h = get_stable x (constant_of p x) h.0
@@ -73,7 +74,7 @@ module _ (p : Program) (start : Start) (part : Part) (base : List Formula) where
   always w hs (ForTest l v ∷ fs) f b = always w hs fs f.2 b
   always w hs (ForTurn l v gs ms ∷ fs) f b =
       subst (λ (js : List Formula). AllHold w js) (sym f.0)
-        (hypotheses-append w gs (in_body p part l.node l.name l.lo l.hi ∷ []) (always w gs fs f.3 b) (body_holds w l v f.1 f.2, tt))
+      (hypotheses-append w gs (in_body p part l.node l.name l.lo l.hi ∷ []) (always w gs fs f.3 b) (body_holds w l v f.1 f.2, tt))
 
   module _ (m : Memory) (c : Cell) (n : ℤ) (s r : Shadow)
       (later : (x : NameBytes) → HoldsIf (state p start m s) (part.known x) → HoldsIf (state p start (write p start m c n) r) (part.known x)) where
@@ -84,10 +85,11 @@ module _ (p : Program) (start : Start) (part : Part) (base : List Formula) where
         ForKeeps p part (state p start m s) l v → ForKeeps p part (state p start (write p start m c n) r) l v
     unfolding hidden expr_shape expr_child term_shape term_child array_shape array_child formula_shape formula_child
     common_kept l v e h f =
-        let g = not_in-append c.name (read_names l.lo.kind) (read_names l.hi.kind) h in
-        (term_stable p start m c n r s l.hi.kind g.1 ∙ f.0,
-         subst (λ (T : Type 0). T) (λ d. sym (term_stable p start m c n r s l.lo.kind g.0) d ≤ℤ sym (number_kept l.name e) d) f.1,
-         later l.name f.2)
+        let g = not_in-append c.name (read_names l.lo.kind) (read_names l.hi.kind) h in (
+          term_stable p start m c n r s l.hi.kind g.1 ∙ f.0,
+          subst (λ (T : Type 0). T) (λ d. sym (term_stable p start m c n r s l.lo.kind g.0) d ≤ℤ sym (number_kept l.name e) d) f.1,
+          later l.name f.2,
+        )
 
     pub facts_kept : (hs : List Formula) (ns : List NameBytes) (fs : List Frame) → NoTest fs → RankedFrames p start ns fs → NotIn c.name ns →
         LoopFacts p part base hs (state p start m s) fs → LoopFacts p part base hs (state p start (write p start m c n) r) fs

@@ -46,7 +46,7 @@ not_again at q r t u false b c d h = refl
 own_kind : (before ds : List Item) (d : Item) → item_faults before d ≡ [] → kind_in (before ++ (d ∷ ds)) d.name ≡ Some d.kind
 own_kind before ds d h =
     none-in before (d ∷ ds) d.name
-      (not_again d.node.id _ _ _ _ (is_declared before d.name) (list_any (is_undeclared_extent before) (extents_of d.kind)) (is_empty_range d.kind) (list_any (is_bad_extent before) (extents_of d.kind)) h)
+    (not_again d.node.id _ _ _ _ (is_declared before d.name) (list_any (is_undeclared_extent before) (extents_of d.kind)) (is_empty_range d.kind) (list_any (is_bad_extent before) (extents_of d.kind)) h)
     ∙ ap (λ b. if b then Some d.kind else kind_in ds d.name) ((bytes_eq-Decides d.name d.name).1 refl)
 
 module _ (p : Program) (start : Start) (accepted : KeepsStaticRules p) (fits : Fits p start) (m : Memory) (s : Shadow) (kept : Kept p start m) where
@@ -99,20 +99,24 @@ module _ (p : Program) (start : Start) (accepted : KeepsStaticRules p) (fits : F
       ((subst (λ (z : ℤ). lo ≤ℤ z) (sym v) r.0, subst (λ (z : ℤ). z ≤ℤ hi) (sym v) r.1), tt)
   range_holds x (InputArray (One f) lo hi) e =
       let sh : shape p start x ≡ Vector (extent p start f) = ap (shape_in p start) e in
-      let g = subst (λ (o : Option ItemKind). HasGoodKind p start o) e (good.extents x) in
-      ((λ n h.
-        let inside = in_vector x (extent p start f) sh n (index_below f g n (n ∷ []) h.0 h.1) in
-        let r = cell_range x (InputArray (One f) lo hi) e refl n (pos 0) inside in
-        let v = vector_element x (extent p start f) sh n (pos 0) inside in
-        (subst (λ (z : ℤ). lo ≤ℤ z) (sym v) r.0, subst (λ (z : ℤ). z ≤ℤ hi) (sym v) r.1)), tt)
+      let g = subst (λ (o : Option ItemKind). HasGoodKind p start o) e (good.extents x) in (
+        (λ n h.
+            let inside = in_vector x (extent p start f) sh n (index_below f g n (n ∷ []) h.0 h.1) in
+            let r = cell_range x (InputArray (One f) lo hi) e refl n (pos 0) inside in
+            let v = vector_element x (extent p start f) sh n (pos 0) inside in
+            (subst (λ (z : ℤ). lo ≤ℤ z) (sym v) r.0, subst (λ (z : ℤ). z ≤ℤ hi) (sym v) r.1)),
+        tt,
+      )
   range_holds x (InputArray (Two f h) lo hi) e =
       let sh : shape p start x ≡ Matrix (extent p start f) (extent p start h) = ap (shape_in p start) e in
-      let g = subst (λ (o : Option ItemKind). HasGoodKind p start o) e (good.extents x) in
-      ((λ n k q.
-        let inside = in_matrix x (extent p start f) (extent p start h) sh n k (index_below f g.0 n (k ∷ n ∷ []) q.0.0 q.0.1) (index_below h g.1 k (k ∷ n ∷ []) q.1.0 q.1.1) in
-        let r = cell_range x (InputArray (Two f h) lo hi) e refl n k inside in
-        let v = matrix_element x (extent p start f) (extent p start h) sh n k inside in
-        (subst (λ (z : ℤ). lo ≤ℤ z) (sym v) r.0, subst (λ (z : ℤ). z ≤ℤ hi) (sym v) r.1)), tt)
+      let g = subst (λ (o : Option ItemKind). HasGoodKind p start o) e (good.extents x) in (
+        (λ n k q.
+            let inside = in_matrix x (extent p start f) (extent p start h) sh n k (index_below f g.0 n (k ∷ n ∷ []) q.0.0 q.0.1) (index_below h g.1 k (k ∷ n ∷ []) q.1.0 q.1.1) in
+            let r = cell_range x (InputArray (Two f h) lo hi) e refl n k inside in
+            let v = matrix_element x (extent p start f) (extent p start h) sh n k inside in
+            (subst (λ (z : ℤ). lo ≤ℤ z) (sym v) r.0, subst (λ (z : ℤ). z ≤ℤ hi) (sym v) r.1)),
+        tt,
+      )
 
   label_holds : (d : Item) (fs : List Formula) → AllHold (state p start m s) fs → AllHold (state p start m s) (labelled_ranges p d fs)
   unfolding hidden formula_shape formula_child
@@ -125,8 +129,8 @@ module _ (p : Program) (start : Start) (accepted : KeepsStaticRules p) (fits : F
   each_holds before (d ∷ ds) e h =
       let own : kind_of p d.name ≡ Some d.kind = subst (λ (is : List Item). kind_in is d.name ≡ Some d.kind) e (own_kind before ds d (front-nil (item_faults before d) (items_faults (before ++ d ∷ []) ds) h)) in
       hypotheses-append (state p start m s) (labelled_ranges p d (item_ranges p d.name d.kind)) (ranges p ds)
-        (label_holds d (item_ranges p d.name d.kind) (range_holds d.name d.kind own))
-        (each_holds (before ++ d ∷ []) ds (append_assoc before (d ∷ []) ds ∙ e) (back-nil (item_faults before d) (items_faults (before ++ d ∷ []) ds) h))
+      (label_holds d (item_ranges p d.name d.kind) (range_holds d.name d.kind own))
+      (each_holds (before ++ d ∷ []) ds (append_assoc before (d ∷ []) ds ∙ e) (back-nil (item_faults before d) (items_faults (before ++ d ∷ []) ds) h))
 
   pub ranges_hold : AllHold (state p start m s) (ranges p p.items)
   ranges_hold = each_holds [] p.items refl (front-nil (items_faults [] p.items) (list_faults p.items [] p.body) accepted)

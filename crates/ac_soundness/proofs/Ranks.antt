@@ -80,9 +80,10 @@ free_name x [] h k = tt
 free_name x (l ∷ ls) h k =
     let a = neither (bytes_eq l.variable x) (is_loop_variable ls x) h in
     let b = neither (reads x l.low || reads x l.high) (is_loop_bound ls x) k in
-    let c = neither (reads x l.low) (reads x l.high) b.0 in
-    (flipped x l.variable a.0,
-     not_in-join x (read_names l.low ++ read_names l.high) (protected ls) (not_in-join x (read_names l.low) (read_names l.high) (unread x l.low c.0) (unread x l.high c.1)) (free_name x ls a.1 b.1))
+    let c = neither (reads x l.low) (reads x l.high) b.0 in (
+      flipped x l.variable a.0,
+      not_in-join x (read_names l.low ++ read_names l.high) (protected ls) (not_in-join x (read_names l.low) (read_names l.high) (unread x l.low c.0) (unread x l.high c.1)) (free_name x ls a.1 b.1),
+    )
 
 small : (i j n m : ℕ) → i < n → j < m → i * m + j < n * m
 small i j n m h k = grind (arith, h, k)
@@ -135,9 +136,10 @@ module _ (p : Program) (start : Start) where
     expr_ranked : (at : NodeId) (e : ExprKind) → expr_faults p.items at e ≡ [] → Ranked p start e
     expr_ranked at (Num n) h = tt
     expr_ranked at (Get x) h = get_ranked (kind_of p x) (passed at (use_tests (kind_of p x) 0) h)
-    expr_ranked at (Read x i) h =
-        (read_ranked (kind_of p x) i (passed at (use_tests (kind_of p x) (index_count i)) (front-nil (broken at (use_tests (kind_of p x) (index_count i))) (index_faults p.items i) h)),
-         index_ranked i (back-nil (broken at (use_tests (kind_of p x) (index_count i))) (index_faults p.items i) h))
+    expr_ranked at (Read x i) h = (
+      read_ranked (kind_of p x) i (passed at (use_tests (kind_of p x) (index_count i)) (front-nil (broken at (use_tests (kind_of p x) (index_count i))) (index_faults p.items i) h)),
+      index_ranked i (back-nil (broken at (use_tests (kind_of p x) (index_count i))) (index_faults p.items i) h),
+    )
     expr_ranked at (Negative n a) h = expr_ranked n.id a h
     expr_ranked at (Plus n a m b) h = (expr_ranked n.id a (front-nil (expr_faults p.items n.id a) (expr_faults p.items m.id b) h), expr_ranked m.id b (back-nil (expr_faults p.items n.id a) (expr_faults p.items m.id b) h))
     expr_ranked at (Minus n a m b) h = (expr_ranked n.id a (front-nil (expr_faults p.items n.id a) (expr_faults p.items m.id b) h), expr_ranked m.id b (back-nil (expr_faults p.items n.id a) (expr_faults p.items m.id b) h))
@@ -175,9 +177,9 @@ module _ (p : Program) (start : Start) where
     assigned x k e c i = record {
       free = ap is_input_kind e ∙ no_input k i;
       room = λ a b inside.
-        let f = numbers-fit p start accepted fits x k e (held_kind k c) in
-        let q : length (numbers_in start.cells x) ≡ count (shape p start x) = f.0 ∙ ap (λ (o : Option ItemKind). count (shape_in p start o)) (sym e) in
-        subst (λ (z : ℕ). place p start (cell x a b) < z) (sym q) (inside_place (shape p start x) a b inside);
+          let f = numbers-fit p start accepted fits x k e (held_kind k c) in
+          let q : length (numbers_in start.cells x) ≡ count (shape p start x) = f.0 ∙ ap (λ (o : Option ItemKind). count (shape_in p start o)) (sym e) in
+          subst (λ (z : ℕ). place p start (cell x a b) < z) (sym q) (inside_place (shape p start x) a b inside);
     }
 
     scalar_var : (k : ItemKind) → not (is_scalar_var k) ≡ false → IsScalar (shape_in p start (Some k))
@@ -215,9 +217,11 @@ module _ (p : Program) (start : Start) where
           let s = put_ranked ls x i (kind_of p x) refl (passed at (set_tests ls x (kind_of p x) (index_count i)) (front-nil t (index_faults p.items i ++ expr_faults p.items e.node.id e.kind) h)) in
           (s.0, index_ranked i (front-nil (index_faults p.items i) (expr_faults p.items e.node.id e.kind) more), expr_ranked e.node.id e.kind (back-nil (index_faults p.items i) (expr_faults p.items e.node.id e.kind) more), s.1, s.2)
       stmt_ranked ls at (If' c _ xs _ ys) h =
-          let more = back-nil (cond_faults p.items c.kind) (block_faults p.items ls xs ++ block_faults p.items ls ys) h in
-          (cond_ranked c.kind (front-nil (cond_faults p.items c.kind) (block_faults p.items ls xs ++ block_faults p.items ls ys) h),
-           block_ranked ls xs (front-nil (block_faults p.items ls xs) (block_faults p.items ls ys) more), block_ranked ls ys (back-nil (block_faults p.items ls xs) (block_faults p.items ls ys) more))
+          let more = back-nil (cond_faults p.items c.kind) (block_faults p.items ls xs ++ block_faults p.items ls ys) h in (
+            cond_ranked c.kind (front-nil (cond_faults p.items c.kind) (block_faults p.items ls xs ++ block_faults p.items ls ys) h),
+            block_ranked ls xs (front-nil (block_faults p.items ls xs) (block_faults p.items ls ys) more),
+            block_ranked ls ys (back-nil (block_faults p.items ls xs) (block_faults p.items ls ys) more),
+          )
       stmt_ranked ls at (For' x a b _ xs) h =
           let t = broken at (for_tests ls x (kind_of p x) a.kind b.kind) in
           let ls2 : List Loop = record { variable = x; low = a.kind; high = b.kind } ∷ ls in

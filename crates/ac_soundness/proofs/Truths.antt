@@ -84,8 +84,8 @@ module _ (p : Program) (start : Start) (shadow : List Event → Shadow) (Bad : L
       let w = state p start m s in
       let g = needs-append need w (expr_sites p a.node.id a.kind) (expr_sites p b.node.id b.kind) h in
       gives_tells shadow Bad s _ _ _
-        (pair_gives shadow Bad s (value_of p start m a.kind) (value_of p start m b.kind) (related op) _ _ (expr_gives p start shadow Bad need law m s kept a.node.id a.kind r.0 g.0) (expr_gives p start shadow Bad need law m s kept b.node.id b.kind r.1 g.1))
-        (related_says w op (term_of p a.kind) (term_of p b.kind))
+      (pair_gives shadow Bad s (value_of p start m a.kind) (value_of p start m b.kind) (related op) _ _ (expr_gives p start shadow Bad need law m s kept a.node.id a.kind r.0 g.0) (expr_gives p start shadow Bad need law m s kept b.node.id b.kind r.1 g.1))
+      (related_says w op (term_of p a.kind) (term_of p b.kind))
   cond_tells (Negation n c) r h =
       let P = Holds (state p start m s) (formula_of p c) in
       let t = cond_tells c r h in
@@ -96,13 +96,17 @@ module _ (p : Program) (start : Start) (shadow : List Event → Shadow) (Bad : L
       let Q = Holds w (formula_of p d) in
       let t = cond_tells c r.0 h.0 in
       then_tells shadow Bad s (truth_of p start m c).0 (truth_of p start m c).1 (λ x. if x then truth_of p start m d else pure false) P (P × Q) t
-        (elim [ true ↦ λ k. let u = cond_tells d r.1 (h.1 k) in (u.0, λ b e. and_says P Q b k (u.1 b e))
-              | false ↦ λ k. pure_tells shadow Bad s false (P × Q) (λ pq. k pq.0) ])
+      (elim [
+        | true ↦ λ k. let u = cond_tells d r.1 (h.1 k) in (u.0, λ b e. and_says P Q b k (u.1 b e))
+        | false ↦ λ k. pure_tells shadow Bad s false (P × Q) (λ pq. k pq.0)
+      ])
   cond_tells (Disjunction n c k d) r h =
       let w = state p start m s in
       let P = Holds w (formula_of p c) in
       let Q = Holds w (formula_of p d) in
       let t = cond_tells c r.0 h.0 in
       then_tells shadow Bad s (truth_of p start m c).0 (truth_of p start m c).1 (λ x. if x then pure true else truth_of p start m d) P (¬ P → ¬ Q → ⊥) t
-        (elim [ true ↦ λ k. pure_tells shadow Bad s true (¬ P → ¬ Q → ⊥) (λ np nq. np k)
-              | false ↦ λ k. let u = cond_tells d r.1 (h.1 k) in (u.0, λ b e. or_says P Q b k (u.1 b e)) ])
+      (elim [
+        | true ↦ λ k. pure_tells shadow Bad s true (¬ P → ¬ Q → ⊥) (λ np nq. np k)
+        | false ↦ λ k. let u = cond_tells d r.1 (h.1 k) in (u.0, λ b e. or_says P Q b k (u.1 b e))
+      ])

@@ -140,7 +140,7 @@ module _ (p : Program) (start : Start) (shadow : List Event → Shadow) (Bad : L
 
   element_gives : (n : NodeId) (x : NameBytes) (i j : Term) → IsArray (shape p start x) → HasIndexesOf (shape p start x) i j → NeedsHold need (state p start m s) (read_sites p n x i j) →
       Gives shadow Bad s (read p start m (cell x (value (state p start m s) [] i) (value (state p start m s) [] j)))
-        (element_or (shape p start x) (if is_inside p start (cell x (value (state p start m s) [] i) (value (state p start m s) [] j)) then number_at p start m (cell x (value (state p start m s) [] i) (value (state p start m s) [] j)) else pos 0))
+      (element_or (shape p start x) (if is_inside p start (cell x (value (state p start m s) [] i) (value (state p start m s) [] j)) then number_at p start m (cell x (value (state p start m s) [] i) (value (state p start m s) [] j)) else pos 0))
   unfolding hidden term_shape term_child array_shape array_child
   element_gives n x i j r ix h =
       let at = site_at n kind.Read x i j in
@@ -148,6 +148,7 @@ module _ (p : Program) (start : Start) (shadow : List Event → Shadow) (Bad : L
 
   mutual
     unfolding hidden expr_shape expr_child term_shape term_child array_shape array_child
+
     pub expr_gives : (n : NodeId) (e : ExprKind) → Ranked p start e → NeedsHold need (state p start m s) (expr_sites p n e) → Gives shadow Bad s (value_of p start m e) (value (state p start m s) [] (term_of p e))
     expr_gives n (Num k) r h = subst (λ (z : ℤ). Gives shadow Bad s (pure (pos k)) z) (sym (literal_value (state p start m s) [] k)) (pure_gives shadow Bad s (pos k))
     expr_gives n (Get x) r h = get_gives n x (constant_of p x) r h
@@ -155,7 +156,7 @@ module _ (p : Program) (start : Start) (shadow : List Event → Shadow) (Bad : L
         let w = state p start m s in
         let k = needs-append need w (read_sites p n x (first_index p at) (second_index p at)) (index_sites p at) h in
         bind_gives shadow Bad s (indexes_of p start m at) (λ ij. read p start m (cell x ij.0 ij.1)) (value w [] (first_index p at), value w [] (second_index p at)) _
-          (index_gives at r.1 k.1) (element_gives n x (first_index p at) (second_index p at) (indexed_array (shape p start x) at r.0) (indexed_by p (shape p start x) at r.0) k.0)
+        (index_gives at r.1 k.1) (element_gives n x (first_index p at) (second_index p at) (indexed_array (shape p start x) at r.0) (indexed_by p (shape p start x) at r.0) k.0)
     expr_gives n (Negative k a) r h =
         bind_gives shadow Bad s (value_of p start m a) (λ x. pure (neg_ℤ x)) (value (state p start m s) [] (term_of p a)) _ (expr_gives k.id a r h) (pure_gives shadow Bad s _)
     expr_gives n (Plus k a l b) r h =

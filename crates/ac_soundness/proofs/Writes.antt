@@ -105,7 +105,7 @@ module _ (p : Program) (start : Start) where
       let u = (Decides-int_eq i k).0 e in
       let v = (Decides-int_eq j l).0 f in
       (λ t. number_at p start (write p start m (cell x i j) n) (cell x (sym u t) (sym v t))) ∙ number_same m (cell x i j) n r
-  at_cell m x i j k l n true true false e f g h r = 
+  at_cell m x i j k l n true true false e f g h r =
       let u = (Decides-int_eq i k).0 e in
       let v = (Decides-int_eq j l).0 f in
       let w : is_inside p start (cell x k l) ≡ true = (λ t. is_inside p start (cell x (sym u t) (sym v t))) ∙ h in
@@ -184,6 +184,7 @@ module _ (p : Program) (start : Start) (m : Memory) (s r : Shadow) (cs : List Ch
   module _ (x : NameBytes) (t : Term) (h : IsScalar (shape p start x)) (k : place p start (cell x (pos 0) (pos 0)) < length (numbers_in m x)) where
     set_number : ℤ
     set_number = value (state p start m s) [] t
+
     set_after : Memory
     unfolding set_number
     set_after = write p start m (cell x (pos 0) (pos 0)) set_number
@@ -218,6 +219,7 @@ module _ (p : Program) (start : Start) (m : Memory) (s r : Shadow) (cs : List Ch
       (k : place p start (cell x (value (state p start m s) [] i) (value (state p start m s) [] j)) < length (numbers_in m x)) where
     put_after : Memory
     put_after = write p start m (cell x (value (state p start m s) [] i) (value (state p start m s) [] j)) (value (state p start m s) [] t)
+
     put_change : Change
     unfolding term_shape term_child array_shape array_child hidden
     put_change = Array (Value x) (array.Put (array.Sym (Value x)) i j t)
@@ -240,6 +242,7 @@ module _ (p : Program) (start : Start) (m : Memory) (s r : Shadow) (cs : List Ch
       where
         w : Valuation
         w = state p start m s
+
         go : (b : Bool) → bytes_eq x y ≡ b → table_of (state p start m s) [] (if b then array.Put (array.Sym (Value x)) i j t else array_symbol_after cs (Value y)) ≡ state_table p start (write p start m (cell x (value (state p start m s) [] i) (value (state p start m s) [] j)) (value (state p start m s) [] t)) r (Value y)
         go true e = subst (λ (z : NameBytes). with_cell (element p start m x) (value (state p start m s) [] i) (value (state p start m s) [] j) (value (state p start m s) [] t) ≡ state_table p start (write p start m (cell x (value (state p start m s) [] i) (value (state p start m s) [] j)) (value (state p start m s) [] t)) r (Value z)) ((bytes_eq-Decides x y).0 e)
             (λ d u v. sym (element_same p start m x (value (state p start m s) [] i) (value (state p start m s) [] j) u v (value (state p start m s) [] t) h inside k) d)

@@ -30,6 +30,7 @@ HasIndexes (Matrix rows columns) (TwoIndexes n a k b) = Unit {0}
 -- the names that an expression reads
 abbrev mutual
   unfolding hidden expr_shape expr_child
+
   pub read_names : ExprKind → List NameBytes
   read_names (Num n) = []
   read_names (Get x) = x ∷ []
@@ -55,6 +56,7 @@ module _ (p : Program) (start : Start) where
   -- each name is used with its rank
   abbrev mutual
     unfolding hidden expr_shape expr_child
+
     pub Ranked : ExprKind → Type 0
     Ranked (Num n) = Unit {0}
     Ranked (Get x) = IsScalar (shape p start x)

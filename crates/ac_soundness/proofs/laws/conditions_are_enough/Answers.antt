@@ -17,13 +17,13 @@ returns g c = λ start n fits.
     let kept = c.requires.accepted in
     let part = part_of (g.P.Policy.need_of policy p) (g.P.Policy.effect_of policy p) (g.P.Policy.known_of policy) c.args.annotations.now in
     never_bad p start part (g.P.Policy.shadow policy p start) (g.P.Policy.bad policy p start)
-      (record {
-        form = g.met.P.Policy.law_form policy p;
-        effect = g.met.P.Policy.law_effect policy p start;
-        need = g.met.P.Policy.law_need policy p start kept fits;
-        known = g.met.P.Policy.law_known policy p start;
-        for_write = g.met.P.Policy.law_for policy p start
-      })
-      (ranges p p.items) (λ m s same. ranges_hold p start kept fits m s same)
-      (program_ranked p start kept fits)
-      (all_valid p c.args.name part (covers p c.args.name part IsValid (recursion_from_All IsValid _ c.requires.hold))) n
+    (record {
+      form = g.met.P.Policy.law_form policy p;
+      effect = g.met.P.Policy.law_effect policy p start;
+      need = g.met.P.Policy.law_need policy p start kept fits;
+      known = g.met.P.Policy.law_known policy p start;
+      for_write = g.met.P.Policy.law_for policy p start;
+    })
+    (ranges p p.items) (λ m s same. ranges_hold p start kept fits m s same)
+    (program_ranked p start kept fits)
+    (all_valid p c.args.name part (covers p c.args.name part IsValid (recursion_from_All IsValid _ c.requires.hold))) n
