@@ -4,3 +4,4 @@ pub mod Parts
 pub mod PairsMatch
 pub mod PairsOfConditions
 pub mod SitesAimedAt
+pub mod Barriers

@@ -6,9 +6,10 @@ ghost use Rattle.ac_tree.specs.declared.path.Target.{Target};
 ghost use Rattle.ac_tree.specs.declared.path.Target.TheVariants as target;
 ghost use Rattle.ac_tree.specs.declared.policy.PolicyName.{PolicyName};
 ghost use Rattle.ac_tree.specs.declared.program.Program.{Program};
-ghost use Rattle.ac_flow.specs.Cuts.{has_barrier};
+ghost use Rattle.ac_flow.specs.Cuts.{has_barrier, has_place};
 ghost use Rattle.ac_flow.specs.Listed.{IsListed};
 ghost use Rattle.ac_flow.specs.Pairs.{is_subject, pairs_of};
+ghost use Rattle.ac_logic.specs.declared.condition.Annotation.{Annotation};
 ghost use Rattle.ac_logic.specs.declared.formula.Change.{Change as AnyChange};
 ghost use Rattle.ac_logic.specs.declared.formula.Formula.{Formula as AnyFormula};
 ghost use Rattle.ac_logic.specs.Size.{depth_of, size_of};
@@ -17,7 +18,7 @@ ghost use Rattle.ac_policy.specs.declared.site.Site.{Site};
 ghost use Rattle.ac_policy.specs.Sites.{sites_of};
 ghost use Rattle.ac_conditions.specs.AllConditions.{part_conditions};
 ghost use Rattle.ac_conditions.specs.Marked.{AreMarked};
-ghost use Rattle.ac_conditions.specs.Part.{Part, is_any};
+ghost use Rattle.ac_conditions.specs.Part.{Part, facts_at, is_after, is_any, places_of};
 ghost use Rattle.ac_conditions.specs.Weights.{ones, weight, after};
 
 /// The law of weights: the size and the depth of a formula after changes are the weight of the formula before them, where each
@@ -36,4 +37,9 @@ pub fn conditions_follow_pairs()
 /// The law that each subject site is the target of a condition.
 pub fn subject_sites_are_targets()
     ensures { (program : Program) (policy : PolicyName) (part : Part) (site : Site) → Contains (sites_of program) site → is_some (part.need site) ≡ true → (c : Cut) × IsListed (map (λ x. x.pair) (part_conditions program policy part)) (record { cut = c; target = target.Site site.node }) }
+{}
+
+/// The law that a barrier stands exactly where an annotation has its place behind a statement.
+pub fn annotations_give_barriers()
+    ensures { (annotations : List Annotation) (n : NodeId) → has_place (places_of annotations) n.0 ≡ is_any (facts_at (is_after n) annotations) }
 {}
