@@ -16,7 +16,7 @@ use Rattle.ac_logic.specs.Patterns.{Scalar}
 use Rattle.ac_policy.specs.ExtentValues.{literal_value}
 use Rattle.ac_policy.specs.Laws.{HoldsIf}
 use Rattle.ac_policy.specs.State.{Shadow, state, element}
-use Rattle.ac_policy.specs.Terms.{term_of, first_index, second_index, constant_or}
+use Rattle.ac_policy.specs.Terms.{term_of, first_index, second_index, constant_term_or}
 use Rattle.ac_conditions.specs.Hypotheses.{in_body}
 use Rattle.ac_conditions.specs.Part.{Part}
 use Rattle.ac_soundness.proofs.PathsHold.{and_holds, hypotheses-append}
@@ -33,7 +33,7 @@ not_in-append z (x ∷ xs) ys h = let k = not_in-append z xs ys h.1 in ((h.0, k.
 
 -- a term has its value after a write to another name
 module _ (p : Program) (start : Start) (m : Memory) (c : Cell) (n : ℤ) (r s : Shadow) where
-  get_stable : (x : NameBytes) (o : Option ℤ) → bytes_eq c.name x ≡ false → value (state p start (write p start m c n) r) [] (constant_or o (Scalar (Value x))) ≡ value (state p start m s) [] (constant_or o (Scalar (Value x)))
+  get_stable : (x : NameBytes) (o : Option ℤ) → bytes_eq c.name x ≡ false → value (state p start (write p start m c n) r) [] (constant_term_or o (Scalar (Value x))) ≡ value (state p start m s) [] (constant_term_or o (Scalar (Value x)))
   unfolding term_shape term_child hidden
   get_stable x (Some k) h = refl
   get_stable x None h = scalar_other p start m c x n h

@@ -27,7 +27,7 @@ use Rattle.ac_policy.specs.ExtentValues.{literal_value}
 use Rattle.ac_policy.specs.Laws.{HasIndexesOf, LawNeed, HoldsIf, IsIndexed, cell_of, EventOf}
 use Rattle.ac_policy.specs.Sites.{site_at, read_sites, expr_sites, index_sites, unless_constant}
 use Rattle.ac_policy.specs.State.{Kept, Shadow, IsArray, IsScalar, cell, state, element_or, scalar_or}
-use Rattle.ac_policy.specs.Terms.{zero_term, constant_or, term_of, first_index, second_index}
+use Rattle.ac_policy.specs.Terms.{zero_term, constant_term_or, term_of, first_index, second_index}
 use Rattle.ac_soundness.proofs.SitesHold.{needs-append}
 use Rattle.ac_soundness.specs.Needs.{NeedsHold}
 use Rattle.ac_soundness.specs.Opened.{hidden, expr_shape, expr_child, term_shape, term_child, array_shape, array_child}
@@ -94,7 +94,7 @@ module _ (p : Program) (start : Start) (shadow : List Event → Shadow) (Bad : L
   here : (trace : List Event) (at : Site) → at.kind ≡ kind.Read → IsIndexed p start at → HoldsIf (state p start m (shadow trace)) (need at) → ¬ Bad trace (event.Read (cell_of (state p start m (shadow trace)) at))
   here trace at k indexed h =
       let w = state p start m (shadow trace) in
-      law m trace at (event.Read (cell_of w at)) kept indexed h (subst (λ d. EventOf p start d at w m (event.Read (cell_of w at))) (sym k) refl)
+      law m trace at (event.Read (cell_of w at)) kept indexed h (subst (λ d. EventOf p start d (cell_of w at) at.name m (event.Read (cell_of w at))) (sym k) refl)
 
   fine : (at : Site) → at.kind ≡ kind.Read → IsIndexed p start at → HoldsIf (state p start m s) (need at) → Fine shadow Bad s (cell_of (state p start m s) at)
   fine at k indexed h trace e = subst (λ (s2 : Shadow). HoldsIf (state p start m s2) (need at) → ¬ Bad trace (event.Read (cell_of (state p start m s2) at))) e (here trace at k indexed) h
@@ -118,7 +118,7 @@ module _ (p : Program) (start : Start) (shadow : List Event → Shadow) (Bad : L
   read_gives c t f h = ((f, tt), inside_is (number_at p start m c) t (is_inside p start c) h)
 
   get_gives : (n : NodeId) (x : NameBytes) (o : Option ℤ) → IsScalar (shape p start x) → NeedsHold need (state p start m s) (unless_constant o (site_at n kind.Read x zero_term zero_term)) →
-      Gives shadow Bad s (constant_or_read p start m o x) (value (state p start m s) [] (constant_or o (Scalar (Value x))))
+      Gives shadow Bad s (constant_or_read p start m o x) (value (state p start m s) [] (constant_term_or o (Scalar (Value x))))
   unfolding hidden term_shape term_child array_shape array_child
   get_gives n x (Some k) r h = pure_gives shadow Bad s k
   get_gives n x None r h =
