@@ -3,3 +3,11 @@ pub mod Steps
 pub mod Choices
 pub mod Holders
 pub mod Whole
+pub mod OnPaths
+pub mod Standing
+pub mod Order
+pub mod FromCut
+pub mod Entered
+pub mod Named
+pub mod Covered
+pub mod Walked
