@@ -10,4 +10,5 @@ pub mod FromCut
 pub mod Entered
 pub mod Named
 pub mod Covered
+pub mod SiteStatement
 pub mod Walked

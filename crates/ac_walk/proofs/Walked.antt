@@ -6,6 +6,7 @@ use Rattle.ac_tree.specs.declared.node.NodeId.{NodeId}
 use Rattle.ac_tree.specs.declared.path.Cut.{Cut}
 use Rattle.ac_tree.specs.declared.path.Cut.TheVariants as cut
 use Rattle.ac_tree.specs.declared.path.Target.{Target}
+use Rattle.ac_tree.specs.declared.path.Target.TheVariants.{Entry, Keep, Barrier, Site}
 use Rattle.ac_tree.specs.declared.program.Cond.{Cond}
 use Rattle.ac_tree.specs.declared.program.Item.{Item}
 use Rattle.ac_tree.specs.declared.program.Program.{Program}
@@ -20,9 +21,10 @@ use Rattle.ac_flow.specs.Paths.{IsPointOf, LeadsTo, Reaches}
 use Rattle.ac_flow.specs.Points.{Do, Behind, Enter, Test, Turn, Exit, Judge, Decide, See, Begin, Point, block, cut_at}
 use Rattle.ac_flow.proofs.LeadsHold.{path_leads}
 use Rattle.ac_flow.proofs.Within.{none-some, some-same}
-use Rattle.ac_walk.specs.Visits.{Has, HasInside, BelongsTo, EntersAt, IsVisited, input, around, own, on_path, aim}
+use Rattle.ac_walk.specs.Visits.{Has, HasInside, BelongsTo, EntersAt, IsAccessOf, LeadsBy, IsVisited, input, around, own, on_path, site, aim}
 use Rattle.ac_walk.specs.Walks.{target_node, is_for, is_in_cond, lefts, list_entered, block_entered, list_from, path_nodes, is_input, inputs, with_node, walk_of}
 use Rattle.ac_walk.proofs.OnPaths.{either_passes}
+use Rattle.ac_walk.proofs.SiteStatement.{site_entered}
 use Rattle.ac_walk.proofs.Order.{Rises, listed_left, listed_right, rises_left, rises_right, stands_rise, inner_rises, program_rises}
 use Rattle.ac_walk.proofs.Standing.{whole, follows, Leaves, leaves_off, Loops, a_for, a_while, point_lies}
 use Rattle.ac_walk.proofs.Entered.{Disjoint, point_nodes, block_nodes, not_own, never_both, unless_in, Comes, after_step, beyond, behind_in, turn_in, test_in, block_in, list_in}
@@ -246,11 +248,26 @@ module _ (p : Program) (cuts : List Cut) (c : Cut) (t : Target) (numbered : IsNu
   on_walk : (m : NodeId) → IsListed (path_nodes (has_barrier cuts) t c p.body) m → IsListed (walk_of p cuts (record { cut = c; target = t })) m
   on_walk m h = with_kept (target_node t) (inputs p.items ++ path_nodes (has_barrier cuts) t c p.body) m (listed_right (inputs p.items) (path_nodes (has_barrier cuts) t c p.body) m h)
 
+  entered_named : (via : Point) (n : NodeId) → LeadsBy p (has_barrier cuts) c t via → EntersAt via n → IsListed (walk_of p cuts (record { cut = c; target = t })) n
+  entered_named via n r e = on_walk n (path_covered p rising (has_barrier cuts) t via n e (path_leads (has_barrier cuts) t r.behind r.is_target) r.from c r.of_program r.is_cut r.before)
+
+  own_walked : (n : NodeId) → BelongsTo c n → IsListed (walk_of p cuts (record { cut = c; target = t })) n
+  own_walked n b = on_walk n (own_covered p rising (has_barrier cuts) t reached.from c n reached.of_program reached.is_cut b)
+
+  site_named : (u : Target) (st : Stmt) → u ≡ t → Has p.body st → IsAccessOf u st → IsListed (walk_of p cuts (record { cut = c; target = t })) st.node.id
+  site_named (Site v) st e h a = elim (site_entered v p (has_barrier cuts) rising st h a c (subst (λ (w : Target). Reaches p (has_barrier cuts) c w) (sym e) reached)) [
+      | inl b ↦ own_walked st.node.id b
+      | inr (via, by, k) ↦ entered_named via st.node.id (subst (λ (w : Target). LeadsBy p (has_barrier cuts) c w via) e by) k
+    ]
+  site_named (Entry n) st e h a = absurd a
+  site_named (Keep n) st e h a = absurd a
+  site_named (Barrier n) st e h a = absurd a
+
   pub visited_named : (m : NodeId) → IsVisited p (has_barrier cuts) c t m → IsListed (walk_of p cuts (record { cut = c; target = t })) m
   visited_named _ (input d h e) =
       with_kept (target_node t) (inputs p.items ++ path_nodes (has_barrier cuts) t c p.body) d.node.id (listed_left (inputs p.items) (path_nodes (has_barrier cuts) t c p.body) d.node.id (in_inputs p.items d h e))
   visited_named _ (around loop inner h f i b) = on_walk loop.node.id (around_covered p rising (has_barrier cuts) t c loop inner h f i b)
-  visited_named _ (own n b) = on_walk n (own_covered p rising (has_barrier cuts) t reached.from c n reached.of_program reached.is_cut b)
-  visited_named _ (on_path via n r e) =
-      on_walk n (path_covered p rising (has_barrier cuts) t via n e (path_leads (has_barrier cuts) t r.behind r.is_target) r.from c r.of_program r.is_cut r.before)
+  visited_named _ (own n b) = own_walked n b
+  visited_named _ (on_path via n r e) = entered_named via n r e
+  visited_named _ (site st h a) = site_named t st refl h a
   visited_named _ aim = with_own (target_node t) (inputs p.items ++ path_nodes (has_barrier cuts) t c p.body)
