@@ -78,9 +78,9 @@ module _ (p : Program) where
 
     first_apart : (st : Stmt) (sts : List Stmt) (after : Point) → Rises 0 (nodes_of_list (st ∷ sts)) → Disjoint (nodes_of_list (st ∷ sts)) (point_nodes after) → Disjoint (st.node.id ∷ inside_stmt st.kind) (point_nodes (map Do sts ++ after))
     first_apart st sts after r d x i j = elim (list_nodes sts after x j) [
-        | inl g ↦ never_both (st.node.id ∷ inside_stmt st.kind) (nodes_of_list sts) x r i g
-        | inr g ↦ d x (listed_left (st.node.id ∷ inside_stmt st.kind) (nodes_of_list sts) x i) g
-      ]
+      | inl g ↦ never_both (st.node.id ∷ inside_stmt st.kind) (nodes_of_list sts) x r i g
+      | inr g ↦ d x (listed_left (st.node.id ∷ inside_stmt st.kind) (nodes_of_list sts) x i) g
+    ]
 
     own_rises : (st : Stmt) (sts : List Stmt) → Rises 0 (nodes_of_list (st ∷ sts)) → Rises 0 (st.node.id ∷ inside_stmt st.kind)
     own_rises st sts r = rises_left 0 (st.node.id ∷ inside_stmt st.kind) (nodes_of_list sts) r
@@ -176,20 +176,20 @@ module _ (p : Program) where
 
         held_goes : (x : Stmt) (sts : List Stmt) (after : Point) → list_begins s.node.id sts ≡ false → Back (x ∷ sts) after → leaves barrier t c s.node.id x ≡ true → IsListed (point_entered barrier t (map Do sts ++ after)) m → W
         held_goes x sts after b u e i = elim (point_split sts after m i) [
-            | inl j ↦ u.0 (subst (λ (ns : List NodeId). IsListed ns m) (sym (from_here barrier t c s.node.id x sts b))
-                (listed_right (from barrier t c s.node.id x) (if leaves barrier t c s.node.id x then list_entered barrier t sts else []) m (where_in (leaves barrier t c s.node.id x) (list_entered barrier t sts) m e j)))
-            | inr (h, j) ↦ u.1 (comes_here barrier t c s.node.id x sts b ∙ both (leaves barrier t c s.node.id x) (not (list_meets barrier t sts) && list_passes barrier sts) e h) j
-          ]
+          | inl j ↦ u.0 (subst (λ (ns : List NodeId). IsListed ns m) (sym (from_here barrier t c s.node.id x sts b))
+              (listed_right (from barrier t c s.node.id x) (if leaves barrier t c s.node.id x then list_entered barrier t sts else []) m (where_in (leaves barrier t c s.node.id x) (list_entered barrier t sts) m e j)))
+          | inr (h, j) ↦ u.1 (comes_here barrier t c s.node.id x sts b ∙ both (leaves barrier t c s.node.id x) (not (list_meets barrier t sts) && list_passes barrier sts) e h) j
+        ]
 
         outward : (x : Stmt) (sts : List Stmt) (after : Point) (inner : List Stmt) (end : Point) → list_begins s.node.id sts ≡ false → nat_eq x.node.id.0 s.node.id.0 ≡ false →
             deeper barrier t c s.node.id x.kind ≡ list_from barrier t c s.node.id inner →
             (list_comes barrier t c s.node.id inner ≡ true → IsListed (point_entered barrier t end) m → (comes_out barrier t c s.node.id x.node.id x.kind ≡ true) × IsListed (point_entered barrier t (map Do sts ++ after)) m) →
             Back (x ∷ sts) after → Back inner end
         outward x sts after inner end b e d f u = (
-            λ i. held_named x sts after b u (subst (λ (ns : List NodeId). IsListed ns m) (sym (from_around barrier t c s.node.id x e))
+          λ i. held_named x sts after b u (subst (λ (ns : List NodeId). IsListed ns m) (sym (from_around barrier t c s.node.id x e))
               (listed_right (enclosing barrier t x.node.id x.kind) (deeper barrier t c s.node.id x.kind) m (subst (λ (ns : List NodeId). IsListed ns m) (sym d) i))),
-            λ h i. let g = f h i in held_goes x sts after b u (leaves_around barrier t c s.node.id x e ∙ g.0) g.1,
-          )
+          λ h i. let g = f h i in held_goes x sts after b u (leaves_around barrier t c s.node.id x e ∙ g.0) g.1,
+        )
 
         part_goes : {j k : _} (at : Node) (test : Cond) (yes_ : Row_of-Stmt j) (no_ : Row_of-Stmt k) (rest : Point) (chosen : Bool) → (if begins s.node.id no_ then block_comes barrier t c s.node.id no_ else block_comes barrier t c s.node.id yes_) ≡ chosen → chosen ≡ true →
             IsListed (point_entered barrier t (Behind at.id ∷ rest)) m →

@@ -185,19 +185,19 @@ module _ (barrier : ℕ → Bool) (t : Target) where
     meets_node : (n : NodeId) (st : StmtKind) → meets barrier t n st ≡ true → In (n ∷ inside_stmt st)
     meets_node n (Set x e) h = elim (either_passes (is_in_expr t e.node e.kind) (is_site t n) h) [ inl k ↦ inr (expr_node e.node e.kind k) | inr k ↦ inl (site_node t n k) ]
     meets_node n (Put x i e) h = elim (either_passes (is_in_index t i || is_in_expr t e.node e.kind) (is_site t n) h) [
-        | inl k ↦ inr (two_in (inside_index i) (e.node.id ∷ inside_expr e.kind) (is_in_index t i) (is_in_expr t e.node e.kind) (index_node i) (expr_node e.node e.kind) k)
-        | inr k ↦ inl (site_node t n k)
-      ]
+      | inl k ↦ inr (two_in (inside_index i) (e.node.id ∷ inside_expr e.kind) (is_in_index t i) (is_in_expr t e.node e.kind) (index_node i) (expr_node e.node e.kind) k)
+      | inr k ↦ inl (site_node t n k)
+    ]
     meets_node n (If' test _ yes_ _ no_) h =
         inr (two_in (test.node.id ∷ inside_cond test.kind) (nodes_of_row yes_ ++ nodes_of_row no_) (is_in_cond t test.kind) (block_meets barrier t yes_ || block_meets barrier t no_) (λ k. inr (cond_node test.kind k))
         (λ k. two_in (nodes_of_row yes_) (nodes_of_row no_) (block_meets barrier t yes_) (block_meets barrier t no_) (block_meets_node yes_) (block_meets_node no_) k) h)
     meets_node n (For' x lo hi _ body) h = elim (either_passes (is_in_expr t lo.node lo.kind || is_in_expr t hi.node hi.kind) (is_entry t n) h) [
-        | inl k ↦ inr (elim (either_passes (is_in_expr t lo.node lo.kind) (is_in_expr t hi.node hi.kind) k) [
-          | inl g ↦ listed_left (lo.node.id ∷ inside_expr lo.kind) _ (target_node t) (expr_node lo.node lo.kind g)
-          | inr g ↦ listed_right (lo.node.id ∷ inside_expr lo.kind) _ (target_node t) (listed_left (hi.node.id ∷ inside_expr hi.kind) (nodes_of_row body) (target_node t) (expr_node hi.node hi.kind g))
-        ])
-        | inr k ↦ inl (entry_node t n k)
-      ]
+      | inl k ↦ inr (elim (either_passes (is_in_expr t lo.node lo.kind) (is_in_expr t hi.node hi.kind) k) [
+        | inl g ↦ listed_left (lo.node.id ∷ inside_expr lo.kind) _ (target_node t) (expr_node lo.node lo.kind g)
+        | inr g ↦ listed_right (lo.node.id ∷ inside_expr lo.kind) _ (target_node t) (listed_left (hi.node.id ∷ inside_expr hi.kind) (nodes_of_row body) (target_node t) (expr_node hi.node hi.kind g))
+      ])
+      | inr k ↦ inl (entry_node t n k)
+    ]
     meets_node n (While' test _ body) h = inl (entry_node t n h)
     meets_node n (Hand x role) h = inl (site_node t n h)
     meets_node n Skip h = cc
@@ -344,10 +344,10 @@ module _ (barrier : ℕ → Bool) (t : Target) where
     two_ways : (q r s : Point) → (EntersAt q m → ⊥) → ((u : Point) → Next q u → (u ≡ r) ⊎ ((u ≡ s) ⊎ ⊥)) → Comes q → Comes r ⊎ Comes s
     two_ways q r s never f (inl e) = absurd (nowhere q never e)
     two_ways q r s never f (inr k) = let l = after_step k.1 in elim (f l.0 l.1) [
-        | inl e ↦ inl (subst (λ (u : Point). (via ≡ u) ⊎ ((cut_at barrier u ≡ None) × LeadsTo barrier u via)) e l.2)
-        | inr (inl e) ↦ inr (subst (λ (u : Point). (via ≡ u) ⊎ ((cut_at barrier u ≡ None) × LeadsTo barrier u via)) e l.2)
-        | inr (inr e) ↦ absurd e
-      ]
+      | inl e ↦ inl (subst (λ (u : Point). (via ≡ u) ⊎ ((cut_at barrier u ≡ None) × LeadsTo barrier u via)) e l.2)
+      | inr (inl e) ↦ inr (subst (λ (u : Point). (via ≡ u) ⊎ ((cut_at barrier u ≡ None) × LeadsTo barrier u via)) e l.2)
+      | inr (inr e) ↦ absurd e
+    ]
 
     cond_in : (c : CondKind) (rest : Point) → Rises 0 (inside_cond c) → Disjoint (inside_cond c) (point_nodes rest) → Comes (Decide c ∷ rest) → IsListed (lefts t c) m ⊎ Comes rest
     unfolding hidden cond_shape cond_child expr_shape expr_child
@@ -413,9 +413,9 @@ module _ (barrier : ℕ → Bool) (t : Target) where
     pub test_in : (c : Cond) (rest : Point) → Rises 0 (inside_cond c.kind) → Disjoint (inside_cond c.kind) (point_nodes rest) → Comes (Judge c ∷ rest) →
         IsListed (c.node.id ∷ lefts t c.kind) m ⊎ ((is_in_cond t c.kind ≡ true → ⊥) × Comes rest)
     test_in c rest r d k = elim (judged_in c rest k) [
-        | inl e ↦ inl (inl e)
-        | inr g ↦ elim (cond_in c.kind rest r d g) [ inl i ↦ inl (inr i) | inr i ↦ inr (λ f. met_before (inside_cond c.kind) rest d (cond_node c.kind f) i, i) ]
-      ]
+      | inl e ↦ inl (inl e)
+      | inr g ↦ elim (cond_in c.kind rest r d g) [ inl i ↦ inl (inr i) | inr i ↦ inr (λ f. met_before (inside_cond c.kind) rest d (cond_node c.kind f) i, i) ]
+    ]
 
     pub behind_in : (n : NodeId) (rest : Point) → Comes (Behind n ∷ rest) → (barrier n.0 ≡ false) × Comes rest
     behind_in n rest (inl e) = absurd (nowhere (Behind n ∷ rest) (λ x. x) e)
@@ -423,15 +423,15 @@ module _ (barrier : ℕ → Bool) (t : Target) where
 
     enter_in : (n : NodeId) (test : Option Cond) (body : List Stmt) (rest : Point) → Comes (Enter n test body ∷ rest) → ⊥
     enter_in n test body rest k = elim (skip (Enter n test body ∷ rest) (Test n test body ∷ rest) (λ x. x) (λ u h. only h) k) [
-        | inl e ↦ nowhere (Test n test body ∷ rest) (λ x. x) e
-        | inr g ↦ some-none g.0
-      ]
+      | inl e ↦ nowhere (Test n test body ∷ rest) (λ x. x) e
+      | inr g ↦ some-none g.0
+    ]
 
     pub turn_in : (n : NodeId) (test : Option Cond) (body : List Stmt) (rest : Point) → Comes (Turn n test body ∷ rest) → ⊥
     turn_in n test body rest k = elim (skip (Turn n test body ∷ rest) (Test n test body ∷ rest) (λ x. x) (λ u h. only h) k) [
-        | inl e ↦ nowhere (Test n test body ∷ rest) (λ x. x) e
-        | inr g ↦ some-none g.0
-      ]
+      | inl e ↦ nowhere (Test n test body ∷ rest) (λ x. x) e
+      | inr g ↦ some-none g.0
+    ]
 
     -- before a statement: there, or along one of its ways
     started : (st : Stmt) (rest : Point) → Comes (Do st ∷ rest) → (m ≡ st.node.id) ⊎ ((r : Point) × Next (Do st ∷ rest) r × Comes r)
@@ -450,7 +450,7 @@ module _ (barrier : ℕ → Bool) (t : Target) where
         Disjoint (at.id ∷ ((test.node.id ∷ inside_cond test.kind) ++ (nodes_of_row yes_ ++ nodes_of_row no_))) (point_nodes rest) →
         (m ≡ at.id) ⊎ ((u : Point) × ((u ≡ Judge test ∷ ((map Do (block yes_) ++ Behind at.id ∷ []) ++ rest)) ⊎ ((u ≡ Judge test ∷ ((map Do (block no_) ++ Behind at.id ∷ []) ++ rest)) ⊎ ⊥)) × Comes u) →
         IsListed (at.id ∷ (test.node.id ∷ (lefts t test.kind ++ (if is_in_cond t test.kind then [] else
-            parts (block_meets barrier t yes_) (block_meets barrier t no_) (block_passes barrier yes_) (block_passes barrier no_) (block_entered barrier t yes_) (block_entered barrier t no_))))) m
+        parts (block_meets barrier t yes_) (block_meets barrier t no_) (block_passes barrier yes_) (block_passes barrier no_) (block_entered barrier t yes_) (block_entered barrier t no_))))) m
         ⊎ (((block_passes barrier yes_ || block_passes barrier no_) ≡ true) × Comes (Behind at.id ∷ rest))
     if_in at test yes_ no_ rest by_yes by_no r d (inl g) = inl (inl g)
     if_in at test yes_ no_ rest by_yes by_no r d (inr (u, inr (inr e), k)) = absurd e
@@ -522,28 +522,34 @@ module _ (barrier : ℕ → Bool) (t : Target) where
       pub stmt_in : (at : Node) (st : StmtKind) (rest : Point) → Rises 0 (at.id ∷ inside_stmt st) → Disjoint (at.id ∷ inside_stmt st) (point_nodes rest) → Comes (Do (record { node = at; kind = st }) ∷ rest) →
           IsListed (at.id ∷ entered barrier t st) m ⊎ ((passes barrier st ≡ true) × Comes (Behind at.id ∷ rest))
       stmt_in at (Set x e) rest r d k = elim (started (record { node = at; kind = Set x e }) rest k) [
-          | inl g ↦ inl (inl g)
-          | inr g ↦ inr (refl, skip (See at.id ∷ Behind at.id ∷ rest) (Behind at.id ∷ rest) (λ y. y) (λ u h. only h)
-              (seen_skip (reads_of e.node e.kind) (See at.id ∷ Behind at.id ∷ []) rest (one_way g.0 _ g.1 g.2)))
-        ]
+        | inl g ↦ inl (inl g)
+        | inr g ↦ inr (
+          refl,
+          skip (See at.id ∷ Behind at.id ∷ rest) (Behind at.id ∷ rest) (λ y. y) (λ u h. only h)
+              (seen_skip (reads_of e.node e.kind) (See at.id ∷ Behind at.id ∷ []) rest (one_way g.0 _ g.1 g.2)),
+        )
+      ]
       stmt_in at (Put x i e) rest r d k = elim (started (record { node = at; kind = Put x i e }) rest k) [
-          | inl g ↦ inl (inl g)
-          | inr g ↦ inr (refl, skip (See at.id ∷ Behind at.id ∷ rest) (Behind at.id ∷ rest) (λ y. y) (λ u h. only h)
-              (seen_skip (index_reads i ++ reads_of e.node e.kind) (See at.id ∷ Behind at.id ∷ []) rest (one_way g.0 _ g.1 g.2)))
-        ]
+        | inl g ↦ inl (inl g)
+        | inr g ↦ inr (
+          refl,
+          skip (See at.id ∷ Behind at.id ∷ rest) (Behind at.id ∷ rest) (λ y. y) (λ u h. only h)
+              (seen_skip (index_reads i ++ reads_of e.node e.kind) (See at.id ∷ Behind at.id ∷ []) rest (one_way g.0 _ g.1 g.2)),
+        )
+      ]
       stmt_in at (If' test a yes_ b no_) rest r d k = if_in at test yes_ no_ rest (block_in yes_ (Behind at.id ∷ []) rest) (block_in no_ (Behind at.id ∷ []) rest) r d (started (record { node = at; kind = If' test a yes_ b no_ }) rest k)
       stmt_in at (For' x lo hi a body) rest r d k = elim (started (record { node = at; kind = For' x lo hi a body }) rest k) [
-          | inl g ↦ inl (inl g)
-          | inr g ↦ absurd (enter_in at.id None (block body) rest (seen_skip (reads_of lo.node lo.kind ++ reads_of hi.node hi.kind) (Enter at.id None (block body) ∷ []) rest (one_way g.0 _ g.1 g.2)))
-        ]
+        | inl g ↦ inl (inl g)
+        | inr g ↦ absurd (enter_in at.id None (block body) rest (seen_skip (reads_of lo.node lo.kind ++ reads_of hi.node hi.kind) (Enter at.id None (block body) ∷ []) rest (one_way g.0 _ g.1 g.2)))
+      ]
       stmt_in at (While' test a body) rest r d k = elim (started (record { node = at; kind = While' test a body }) rest k) [
-          | inl g ↦ inl (inl g)
-          | inr g ↦ absurd (enter_in at.id (Some test) (block body) rest (one_way g.0 _ g.1 g.2))
-        ]
+        | inl g ↦ inl (inl g)
+        | inr g ↦ absurd (enter_in at.id (Some test) (block body) rest (one_way g.0 _ g.1 g.2))
+      ]
       stmt_in at (Hand x role) rest r d k = elim (started (record { node = at; kind = Hand x role }) rest k) [
-          | inl g ↦ inl (inl g)
-          | inr g ↦ inr (refl, skip (See at.id ∷ Behind at.id ∷ rest) (Behind at.id ∷ rest) (λ y. y) (λ u h. only h) (one_way g.0 _ g.1 g.2))
-        ]
+        | inl g ↦ inl (inl g)
+        | inr g ↦ inr (refl, skip (See at.id ∷ Behind at.id ∷ rest) (Behind at.id ∷ rest) (λ y. y) (λ u h. only h) (one_way g.0 _ g.1 g.2))
+      ]
       stmt_in at Skip rest r d k = elim (started (record { node = at; kind = Skip }) rest k) [ inl g ↦ inl (inl g) | inr g ↦ inr (refl, one_way g.0 _ g.1 g.2) ]
 
       pub block_in : {k : _} (row : Row_of-Stmt k) (after rest : Point) → Rises 0 (nodes_of_row row) → Disjoint (nodes_of_row row) (point_nodes (after ++ rest)) → Comes ((map Do (block row) ++ after) ++ rest) →

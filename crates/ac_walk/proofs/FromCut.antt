@@ -217,9 +217,10 @@ module _ (p : Program) (barrier : ℕ → Bool) (t : Target) (c : Cut) (s : Stmt
         row_begins barrier t s.node.id no_ ∙ begins_later s.node.id (block no_) (λ n k. apart 0 (nodes_of_row yes_) (nodes_of_row no_) s.node.id n parts_rise (row_listed yes_ s (row_has p yes_ s h)) (subst (λ (ns : List NodeId). IsListed ns n) (sym (row_nodes no_)) k)) in
         inward x sts after (block yes_) (Behind at.id ∷ (map Do sts ++ after)) m (rest_later x sts r inside) (inner_above x sts r inside)
         (ap (λ w. if w then block_from barrier t c s.node.id no_ else block_from barrier t c s.node.id yes_) other ∙ row_from barrier t c s.node.id yes_)
-        (λ e. let g = both_true (if begins s.node.id no_ then block_comes barrier t c s.node.id no_ else block_comes barrier t c s.node.id yes_) (not (barrier at.id.0)) e in
-          (sym (ap (λ w. if w then block_comes barrier t c s.node.id no_ else block_comes barrier t c s.node.id yes_) other ∙ row_comes barrier t c s.node.id yes_) ∙ g.0,
-          λ k. subst (λ (w : Bool). IsListed (if w then [] else point_entered barrier t (map Do sts ++ after)) m) (sym (not_true (barrier at.id.0) g.1)) k))
+        (λ e. let g = both_true (if begins s.node.id no_ then block_comes barrier t c s.node.id no_ else block_comes barrier t c s.node.id yes_) (not (barrier at.id.0)) e in (
+          sym (ap (λ w. if w then block_comes barrier t c s.node.id no_ else block_comes barrier t c s.node.id yes_) other ∙ row_comes barrier t c s.node.id yes_) ∙ g.0,
+          λ k. subst (λ (w : Bool). IsListed (if w then [] else point_entered barrier t (map Do sts ++ after)) m) (sym (not_true (barrier at.id.0) g.1)) k,
+        ))
         (aimed at.id m) (zoom m d (inr (inl inside)) i)
     zoom m (in_no at test a b yes_ no_ sts after d) h i =
         let x : Stmt = record { node = at; kind = If' test a yes_ b no_ } in
@@ -230,9 +231,10 @@ module _ (p : Program) (barrier : ℕ → Bool) (t : Target) (c : Cut) (s : Stmt
         row_begins barrier t s.node.id no_ ∙ begins_before s.node.id (block no_) 0 (subst (λ (ns : List NodeId). Rises 0 ns) (row_nodes no_) no_rises) (has_listed (block no_) s h) in
         inward x sts after (block no_) (Behind at.id ∷ (map Do sts ++ after)) m (rest_later x sts r inside) (inner_above x sts r inside)
         (ap (λ w. if w then block_from barrier t c s.node.id no_ else block_from barrier t c s.node.id yes_) other ∙ row_from barrier t c s.node.id no_)
-        (λ e. let g = both_true (if begins s.node.id no_ then block_comes barrier t c s.node.id no_ else block_comes barrier t c s.node.id yes_) (not (barrier at.id.0)) e in
-          (sym (ap (λ w. if w then block_comes barrier t c s.node.id no_ else block_comes barrier t c s.node.id yes_) other ∙ row_comes barrier t c s.node.id no_) ∙ g.0,
-          λ k. subst (λ (w : Bool). IsListed (if w then [] else point_entered barrier t (map Do sts ++ after)) m) (sym (not_true (barrier at.id.0) g.1)) k))
+        (λ e. let g = both_true (if begins s.node.id no_ then block_comes barrier t c s.node.id no_ else block_comes barrier t c s.node.id yes_) (not (barrier at.id.0)) e in (
+          sym (ap (λ w. if w then block_comes barrier t c s.node.id no_ else block_comes barrier t c s.node.id yes_) other ∙ row_comes barrier t c s.node.id no_) ∙ g.0,
+          λ k. subst (λ (w : Bool). IsListed (if w then [] else point_entered barrier t (map Do sts ++ after)) m) (sym (not_true (barrier at.id.0) g.1)) k,
+        ))
         (aimed at.id m) (zoom m d (inr (inl inside)) i)
     zoom m (in_for at x lo hi a body sts after d) h i =
         let loop : Stmt = record { node = at; kind = For' x lo hi a body } in
@@ -252,23 +254,26 @@ module _ (p : Program) (barrier : ℕ → Bool) (t : Target) (c : Cut) (s : Stmt
     pub at_own : (sts : List Stmt) (after : Point) (m : NodeId) → Stands p (s ∷ sts) after → IsListed (list_from barrier t c s.node.id p.body) m →
         IsVisited p barrier c t m ⊎ (IsListed (at_cut barrier t c s.kind) m ⊎ ((leaves_cut barrier t c s.node.id ≡ true) × IsListed (point_entered barrier t (map Do sts ++ after)) m))
     at_own sts after m d i = elim (zoom m d (inl refl) i) [
-        | inl v ↦ inl v
-        | inr (inl j) ↦ elim (in_either (from barrier t c s.node.id s) (if leaves barrier t c s.node.id s then list_entered barrier t sts else []) m (subst (λ (ns : List NodeId). IsListed ns m) (from_here barrier t c s.node.id s sts behind) j)) [
-          | inl k ↦ elim (subst (λ (ns : List NodeId). IsListed ns m) from_own k) [
-            | inl e ↦ inl (subst (λ (n : NodeId). IsVisited p barrier c t n) (sym e) (own s.node.id belongs))
-            | inr k' ↦ inr (inl k')
-          ]
-          | inr k ↦ (let g = in_where (leaves barrier t c s.node.id s) (list_entered barrier t sts) m k in inr (inr (sym leaves_own ∙ g.0, list_point barrier t sts after m g.1)))
+      | inl v ↦ inl v
+      | inr (inl j) ↦ elim (in_either (from barrier t c s.node.id s) (if leaves barrier t c s.node.id s then list_entered barrier t sts else []) m (subst (λ (ns : List NodeId). IsListed ns m) (from_here barrier t c s.node.id s sts behind) j)) [
+        | inl k ↦ elim (subst (λ (ns : List NodeId). IsListed ns m) from_own k) [
+          | inl e ↦ inl (subst (λ (n : NodeId). IsVisited p barrier c t n) (sym e) (own s.node.id belongs))
+          | inr k' ↦ inr (inl k')
         ]
-        | inr (inr (h, k)) ↦ (let g = both_true (leaves barrier t c s.node.id s) (not (list_meets barrier t sts) && list_passes barrier sts) (sym (comes_here barrier t c s.node.id s sts behind) ∙ h) in
-            inr (inr (sym leaves_own ∙ g.0, past_point barrier t sts after m g.1 k)))
+        | inr k ↦ (let g = in_where (leaves barrier t c s.node.id s) (list_entered barrier t sts) m k in inr (inr (sym leaves_own ∙ g.0, list_point barrier t sts after m g.1)))
       ]
+      | inr (inr (h, k)) ↦ (let g = both_true (leaves barrier t c s.node.id s) (not (list_meets barrier t sts) && list_passes barrier sts) (sym (comes_here barrier t c s.node.id s sts behind) ∙ h) in
+          inr (inr (sym leaves_own ∙ g.0, past_point barrier t sts after m g.1 k)))
+    ]
       where
         behind : list_begins s.node.id sts ≡ false
         behind = begins_later s.node.id sts (λ n k. apart 0 (s.node.id ∷ inside_stmt s.kind) (nodes_of_list sts) s.node.id n (stands_rise p rises d) (inl refl) k)
+
         same : nat_eq s.node.id.0 s.node.id.0 ≡ true
         same = eq-eqb s.node.id.0 s.node.id.0 refl
+
         from_own : from barrier t c s.node.id s ≡ s.node.id ∷ at_cut barrier t c s.kind
         from_own = ap (λ w. if w then s.node.id ∷ at_cut barrier t c s.kind else enclosing barrier t s.node.id s.kind ++ deeper barrier t c s.node.id s.kind) same
+
         leaves_own : leaves barrier t c s.node.id s ≡ leaves_cut barrier t c s.node.id
         leaves_own = ap (λ w. if w then leaves_cut barrier t c s.node.id else comes_out barrier t c s.node.id s.node.id s.kind) same

@@ -12,3 +12,4 @@ pub mod Named
 pub mod Covered
 pub mod SiteStatement
 pub mod Walked
+pub mod Rising

@@ -11,14 +11,10 @@ use Rattle.ac_tree.specs.Preorder.{inside_expr, inside_cond, inside_stmt, nodes_
 use Rattle.ac_tree.proofs.NodeLaws.{numbered_in_preorder}
 use Rattle.ac_flow.specs.Listed.{IsListed}
 use Rattle.ac_flow.specs.Points.{block, Point}
+pub use Rattle.ac_walk.specs.Rising.{Rises}
 use Rattle.ac_walk.specs.Visits.{Has, BlockHas, HasInside}
 use Rattle.ac_walk.specs.Walks.{list_begins}
 use Rattle.ac_walk.proofs.Standing.{Stands, whole, later, in_yes, in_no, in_for, in_while}
-
--- numbers rise from one on
-abbrev pub Rises : ℕ → List NodeId → Type 0
-Rises i [] = Unit {0}
-Rises i (n ∷ ns) = (i ≤ n.0) × Rises (n.0 + 1) ns
 
 pub listed_left : (xs ys : List NodeId) (n : NodeId) → IsListed xs n → IsListed (xs ++ ys) n
 listed_left (x ∷ xs) ys n (inl e) = inl e
@@ -29,7 +25,7 @@ pub listed_right : (xs ys : List NodeId) (n : NodeId) → IsListed ys n → IsLi
 listed_right [] ys n h = h
 listed_right (x ∷ xs) ys n h = inr (listed_right xs ys n h)
 
-weaker : (i j : ℕ) (ns : List NodeId) → i ≤ j → Rises j ns → Rises i ns
+pub weaker : (i j : ℕ) (ns : List NodeId) → i ≤ j → Rises j ns → Rises i ns
 weaker i j [] h r = tt
 weaker i j (n ∷ ns) h r = (below, r.1)
   where
@@ -62,7 +58,7 @@ apart i (m ∷ xs) ys x y r (inl e) k =
     subst (λ (n : NodeId). n.0 < y.0) (sym e) (omega arith)
 apart i (m ∷ xs) ys x y r (inr h) k = apart (m.0 + 1) xs ys x y r.1 h k
 
-numbers_rise : (i n : ℕ) → Rises i (numbers_from i n)
+pub numbers_rise : (i n : ℕ) → Rises i (numbers_from i n)
 numbers_rise i zero = tt
 numbers_rise i (suc n) = (omega arith, numbers_rise (i + 1) n)
 

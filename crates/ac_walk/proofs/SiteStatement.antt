@@ -41,42 +41,42 @@ mutual
   reads_in n (Read x i) v h = elim (in_either (index_reads i) (n.id ∷ []) v h) [ inl k ↦ inr (index_in i v k) | inr (inl e) ↦ inl e | inr (inr e) ↦ absurd e ]
   reads_in n (Negative m a) v h = inr (reads_in m a v h)
   reads_in n (Plus k a m b) v h = elim (in_either (reads_of k a) (reads_of m b) v h) [
-      | inl i ↦ inr (listed_left (k.id ∷ inside_expr a) (m.id ∷ inside_expr b) v (reads_in k a v i))
-      | inr i ↦ inr (listed_right (k.id ∷ inside_expr a) (m.id ∷ inside_expr b) v (reads_in m b v i))
-    ]
+    | inl i ↦ inr (listed_left (k.id ∷ inside_expr a) (m.id ∷ inside_expr b) v (reads_in k a v i))
+    | inr i ↦ inr (listed_right (k.id ∷ inside_expr a) (m.id ∷ inside_expr b) v (reads_in m b v i))
+  ]
   reads_in n (Minus k a m b) v h = elim (in_either (reads_of k a) (reads_of m b) v h) [
-      | inl i ↦ inr (listed_left (k.id ∷ inside_expr a) (m.id ∷ inside_expr b) v (reads_in k a v i))
-      | inr i ↦ inr (listed_right (k.id ∷ inside_expr a) (m.id ∷ inside_expr b) v (reads_in m b v i))
-    ]
+    | inl i ↦ inr (listed_left (k.id ∷ inside_expr a) (m.id ∷ inside_expr b) v (reads_in k a v i))
+    | inr i ↦ inr (listed_right (k.id ∷ inside_expr a) (m.id ∷ inside_expr b) v (reads_in m b v i))
+  ]
   reads_in n (Times k a m b) v h = elim (in_either (reads_of k a) (reads_of m b) v h) [
-      | inl i ↦ inr (listed_left (k.id ∷ inside_expr a) (m.id ∷ inside_expr b) v (reads_in k a v i))
-      | inr i ↦ inr (listed_right (k.id ∷ inside_expr a) (m.id ∷ inside_expr b) v (reads_in m b v i))
-    ]
+    | inl i ↦ inr (listed_left (k.id ∷ inside_expr a) (m.id ∷ inside_expr b) v (reads_in k a v i))
+    | inr i ↦ inr (listed_right (k.id ∷ inside_expr a) (m.id ∷ inside_expr b) v (reads_in m b v i))
+  ]
 
   index_in : (i : Index) (v : NodeId) → IsListed (index_reads i) v → IsListed (inside_index i) v
   index_in (OneIndex n a) v h = reads_in n a v h
   index_in (TwoIndexes k a m b) v h = elim (in_either (reads_of k a) (reads_of m b) v h) [
-      | inl i ↦ listed_left (k.id ∷ inside_expr a) (m.id ∷ inside_expr b) v (reads_in k a v i)
-      | inr i ↦ listed_right (k.id ∷ inside_expr a) (m.id ∷ inside_expr b) v (reads_in m b v i)
-    ]
+    | inl i ↦ listed_left (k.id ∷ inside_expr a) (m.id ∷ inside_expr b) v (reads_in k a v i)
+    | inr i ↦ listed_right (k.id ∷ inside_expr a) (m.id ∷ inside_expr b) v (reads_in m b v i)
+  ]
 
 cond_reads_in : (c : CondKind) (v : NodeId) → IsListed (cond_reads c) v → IsListed (inside_cond c) v
 unfolding hidden cond_shape cond_child
 cond_reads_in True v h = absurd h
 cond_reads_in False v h = absurd h
 cond_reads_in (Rel op a b) v h = elim (in_either (reads_of a.node a.kind) (reads_of b.node b.kind) v h) [
-    | inl i ↦ listed_left (a.node.id ∷ inside_expr a.kind) (b.node.id ∷ inside_expr b.kind) v (reads_in a.node a.kind v i)
-    | inr i ↦ listed_right (a.node.id ∷ inside_expr a.kind) (b.node.id ∷ inside_expr b.kind) v (reads_in b.node b.kind v i)
-  ]
+  | inl i ↦ listed_left (a.node.id ∷ inside_expr a.kind) (b.node.id ∷ inside_expr b.kind) v (reads_in a.node a.kind v i)
+  | inr i ↦ listed_right (a.node.id ∷ inside_expr a.kind) (b.node.id ∷ inside_expr b.kind) v (reads_in b.node b.kind v i)
+]
 cond_reads_in (Negation n c) v h = inr (cond_reads_in c v h)
 cond_reads_in (Conjunction n c m d) v h = elim (in_either (cond_reads c) (cond_reads d) v h) [
-    | inl i ↦ listed_left (n.id ∷ inside_cond c) (m.id ∷ inside_cond d) v (inr (cond_reads_in c v i))
-    | inr i ↦ listed_right (n.id ∷ inside_cond c) (m.id ∷ inside_cond d) v (inr (cond_reads_in d v i))
-  ]
+  | inl i ↦ listed_left (n.id ∷ inside_cond c) (m.id ∷ inside_cond d) v (inr (cond_reads_in c v i))
+  | inr i ↦ listed_right (n.id ∷ inside_cond c) (m.id ∷ inside_cond d) v (inr (cond_reads_in d v i))
+]
 cond_reads_in (Disjunction n c m d) v h = elim (in_either (cond_reads c) (cond_reads d) v h) [
-    | inl i ↦ listed_left (n.id ∷ inside_cond c) (m.id ∷ inside_cond d) v (inr (cond_reads_in c v i))
-    | inr i ↦ listed_right (n.id ∷ inside_cond c) (m.id ∷ inside_cond d) v (inr (cond_reads_in d v i))
-  ]
+  | inl i ↦ listed_left (n.id ∷ inside_cond c) (m.id ∷ inside_cond d) v (inr (cond_reads_in c v i))
+  | inr i ↦ listed_right (n.id ∷ inside_cond c) (m.id ∷ inside_cond d) v (inr (cond_reads_in d v i))
+]
 
 module _ (v : NodeId) where
   abbrev pub Accesses : Stmt → Type 0
@@ -84,20 +84,20 @@ module _ (v : NodeId) where
 
   ends_in : (lo : Node) (a : ExprKind) (hi : Node) (b : ExprKind) (more : List NodeId) → IsListed (reads_of lo a ++ reads_of hi b) v → IsListed ((lo.id ∷ inside_expr a) ++ ((hi.id ∷ inside_expr b) ++ more)) v
   ends_in lo a hi b more h = elim (in_either (reads_of lo a) (reads_of hi b) v h) [
-      | inl i ↦ listed_left (lo.id ∷ inside_expr a) ((hi.id ∷ inside_expr b) ++ more) v (reads_in lo a v i)
-      | inr i ↦ listed_right (lo.id ∷ inside_expr a) ((hi.id ∷ inside_expr b) ++ more) v (listed_left (hi.id ∷ inside_expr b) more v (reads_in hi b v i))
-    ]
+    | inl i ↦ listed_left (lo.id ∷ inside_expr a) ((hi.id ∷ inside_expr b) ++ more) v (reads_in lo a v i)
+    | inr i ↦ listed_right (lo.id ∷ inside_expr a) ((hi.id ∷ inside_expr b) ++ more) v (listed_left (hi.id ∷ inside_expr b) more v (reads_in hi b v i))
+  ]
 
   accesses_in : (n : NodeId) (k : StmtKind) → IsListed (accesses n k) v → IsListed (n ∷ inside_stmt k) v
   accesses_in n (Set x e) h = elim (in_either (reads_of e.node e.kind) (n ∷ []) v h) [ inl i ↦ inr (reads_in e.node e.kind v i) | inr (inl i) ↦ inl i | inr (inr i) ↦ absurd i ]
   accesses_in n (Put x i e) h = elim (in_either (index_reads i) (reads_of e.node e.kind ++ n ∷ []) v h) [
-      | inl j ↦ inr (listed_left (inside_index i) (e.node.id ∷ inside_expr e.kind) v (index_in i v j))
-      | inr j ↦ elim (in_either (reads_of e.node e.kind) (n ∷ []) v j) [
-        | inl g ↦ inr (listed_right (inside_index i) (e.node.id ∷ inside_expr e.kind) v (reads_in e.node e.kind v g))
-        | inr (inl g) ↦ inl g
-        | inr (inr g) ↦ absurd g
-      ]
+    | inl j ↦ inr (listed_left (inside_index i) (e.node.id ∷ inside_expr e.kind) v (index_in i v j))
+    | inr j ↦ elim (in_either (reads_of e.node e.kind) (n ∷ []) v j) [
+      | inl g ↦ inr (listed_right (inside_index i) (e.node.id ∷ inside_expr e.kind) v (reads_in e.node e.kind v g))
+      | inr (inl g) ↦ inl g
+      | inr (inr g) ↦ absurd g
     ]
+  ]
   accesses_in n (If' test _ yes_ _ no_) h = inr (listed_left (test.node.id ∷ inside_cond test.kind) (nodes_of_row yes_ ++ nodes_of_row no_) v (inr (cond_reads_in test.kind v h)))
   accesses_in n (For' x lo hi _ body) h = inr (ends_in lo.node lo.kind hi.node hi.kind (nodes_of_row body) h)
   accesses_in n (While' test _ body) h = inr (listed_left (test.node.id ∷ inside_cond test.kind) (nodes_of_row body) v (inr (cond_reads_in test.kind v h)))
@@ -134,9 +134,9 @@ module _ (v : NodeId) where
   own_alone n (If' c _ xs _ ys) s r h (inl g) a = never_both (c.node.id ∷ inside_cond c.kind) (nodes_of_row xs ++ nodes_of_row ys) v r (inr (cond_reads_in c.kind v h)) (listed_left (nodes_of_row xs) (nodes_of_row ys) v (row_site xs s g a))
   own_alone n (If' c _ xs _ ys) s r h (inr g) a = never_both (c.node.id ∷ inside_cond c.kind) (nodes_of_row xs ++ nodes_of_row ys) v r (inr (cond_reads_in c.kind v h)) (listed_right (nodes_of_row xs) (nodes_of_row ys) v (row_site ys s g a))
   own_alone n (For' x l u _ xs) s r h g a = elim (in_either (reads_of l.node l.kind) (reads_of u.node u.kind) v h) [
-      | inl i ↦ never_both (l.node.id ∷ inside_expr l.kind) ((u.node.id ∷ inside_expr u.kind) ++ nodes_of_row xs) v r (reads_in l.node l.kind v i) (listed_right (u.node.id ∷ inside_expr u.kind) (nodes_of_row xs) v (row_site xs s g a))
-      | inr i ↦ never_both (u.node.id ∷ inside_expr u.kind) (nodes_of_row xs) v (rises_right 0 (l.node.id ∷ inside_expr l.kind) ((u.node.id ∷ inside_expr u.kind) ++ nodes_of_row xs) r) (reads_in u.node u.kind v i) (row_site xs s g a)
-    ]
+    | inl i ↦ never_both (l.node.id ∷ inside_expr l.kind) ((u.node.id ∷ inside_expr u.kind) ++ nodes_of_row xs) v r (reads_in l.node l.kind v i) (listed_right (u.node.id ∷ inside_expr u.kind) (nodes_of_row xs) v (row_site xs s g a))
+    | inr i ↦ never_both (u.node.id ∷ inside_expr u.kind) (nodes_of_row xs) v (rises_right 0 (l.node.id ∷ inside_expr l.kind) ((u.node.id ∷ inside_expr u.kind) ++ nodes_of_row xs) r) (reads_in u.node u.kind v i) (row_site xs s g a)
+  ]
   own_alone n (While' c _ xs) s r h g a = never_both (c.node.id ∷ inside_cond c.kind) (nodes_of_row xs) v r (inr (cond_reads_in c.kind v h)) (row_site xs s g a)
   own_alone n (Set x e) s r h g a = g
   own_alone n (Put x i e) s r h g a = g
@@ -229,9 +229,9 @@ module _ (v : NodeId) where
 
   both_read : (xs ys zs : List NodeId) → IsListed (xs ++ (ys ++ zs)) v → IsListed ((xs ++ ys) ++ zs) v
   both_read xs ys zs h = elim (in_either xs (ys ++ zs) v h) [
-      | inl i ↦ listed_left (xs ++ ys) zs v (listed_left xs ys v i)
-      | inr i ↦ elim (in_either ys zs v i) [ inl j ↦ listed_left (xs ++ ys) zs v (listed_right xs ys v j) | inr j ↦ listed_right (xs ++ ys) zs v j ]
-    ]
+    | inl i ↦ listed_left (xs ++ ys) zs v (listed_left xs ys v i)
+    | inr i ↦ elim (in_either ys zs v i) [ inl j ↦ listed_left (xs ++ ys) zs v (listed_right xs ys v j) | inr j ↦ listed_right (xs ++ ys) zs v j ]
+  ]
 
   cond_heads : (c : CondKind) (rest r : Point) → IsOneWay (ways_through c) rest r → Heads r → IsListed (cond_reads c ++ head_sites rest) v
   unfolding hidden cond_shape cond_child expr_shape expr_child
@@ -282,16 +282,16 @@ module _ (v : NodeId) where
 
     own_heads : (at : Node) (k : StmtKind) (rest r : Point) → Next (Do (record { node = at; kind = k }) ∷ rest) r → Heads r → IsListed (accesses at.id k) v
     own_heads at (Set x e) rest r (inl g) h = elim (seen_heads (reads_of e.node e.kind) (See at.id ∷ Behind at.id ∷ []) rest (same_heads r _ g h)) [
-        | inl i ↦ listed_left (reads_of e.node e.kind) (at.id ∷ []) v i
-        | inr i ↦ listed_right (reads_of e.node e.kind) (at.id ∷ []) v i
-      ]
+      | inl i ↦ listed_left (reads_of e.node e.kind) (at.id ∷ []) v i
+      | inr i ↦ listed_right (reads_of e.node e.kind) (at.id ∷ []) v i
+    ]
     own_heads at (Put x j e) rest r (inl g) h = elim (seen_heads (index_reads j ++ reads_of e.node e.kind) (See at.id ∷ Behind at.id ∷ []) rest (same_heads r _ g h)) [
-        | inl i ↦ elim (in_either (index_reads j) (reads_of e.node e.kind) v i) [
-          | inl l ↦ listed_left (index_reads j) (reads_of e.node e.kind ++ at.id ∷ []) v l
-          | inr l ↦ listed_right (index_reads j) (reads_of e.node e.kind ++ at.id ∷ []) v (listed_left (reads_of e.node e.kind) (at.id ∷ []) v l)
-        ]
-        | inr i ↦ listed_right (index_reads j) (reads_of e.node e.kind ++ at.id ∷ []) v (listed_right (reads_of e.node e.kind) (at.id ∷ []) v i)
+      | inl i ↦ elim (in_either (index_reads j) (reads_of e.node e.kind) v i) [
+        | inl l ↦ listed_left (index_reads j) (reads_of e.node e.kind ++ at.id ∷ []) v l
+        | inr l ↦ listed_right (index_reads j) (reads_of e.node e.kind ++ at.id ∷ []) v (listed_left (reads_of e.node e.kind) (at.id ∷ []) v l)
       ]
+      | inr i ↦ listed_right (index_reads j) (reads_of e.node e.kind ++ at.id ∷ []) v (listed_right (reads_of e.node e.kind) (at.id ∷ []) v i)
+    ]
     own_heads at (If' test a yes_ b no_) rest r (inl g) h =
         elim (in_either (cond_reads test.kind) (head_sites ((map Do (block yes_) ++ Behind at.id ∷ []) ++ rest)) v (same_heads r (Judge test ∷ ((map Do (block yes_) ++ Behind at.id ∷ []) ++ rest)) g h)) [
           | inl i ↦ i
@@ -323,11 +323,15 @@ module _ (v : NodeId) where
     test_back r (a_for at x lo hi a body sts after d) (inr (inr g)) h = absurd g
     test_back r (a_while at test a body sts after d) (inl g) h =
         let s : Stmt = record { node = at; kind = While' test a body } in
-        let turn : Point = (map Do (block body) ++ Turn at.id (Some test) (block body) ∷ []) ++ (map Do sts ++ after) in
-        (s, refl, stands_has p s d (inl refl), elim (in_either (cond_reads test.kind) (head_sites turn) v (same_heads r (Judge test ∷ turn) g h)) [
-          | inl i ↦ i
-          | inr i ↦ absurd (none_done (block body) (Turn at.id (Some test) (block body) ∷ []) (map Do sts ++ after) (λ y. y) i)
-        ])
+        let turn : Point = (map Do (block body) ++ Turn at.id (Some test) (block body) ∷ []) ++ (map Do sts ++ after) in (
+          s,
+          refl,
+          stands_has p s d (inl refl),
+          elim (in_either (cond_reads test.kind) (head_sites turn) v (same_heads r (Judge test ∷ turn) g h)) [
+            | inl i ↦ i
+            | inr i ↦ absurd (none_done (block body) (Turn at.id (Some test) (block body) ∷ []) (map Do sts ++ after) (λ y. y) i)
+          ],
+        )
     test_back r (a_while at test a body sts after d) (inr (inl g)) h =
         let s : Stmt = record { node = at; kind = While' test a body } in
         (s, refl, stands_has p s d (inl refl), elim (in_either (cond_reads test.kind) [] v (same_heads r (Judge test ∷ Exit at.id ∷ (map Do sts ++ after)) g h)) [ inl i ↦ i | inr i ↦ absurd i ])
@@ -374,10 +378,10 @@ module _ (v : NodeId) where
       path_back : {q r : Point} → LeadsTo barrier q r → Lies p q → Heads r → Heads q ⊎ (Begins q ⊎ Between q r)
       path_back (step {from = q} {to = r} g) l h = elim (back q r l g h) [ inl i ↦ inl i | inr i ↦ inr (inl i) ]
       path_back (steps {from = q} {via = w} {to = r} g c path) l h = elim (path_back path (next_lies p q w l g) h) [
-          | inl i ↦ elim (back q w l g i) [ inl j ↦ inl j | inr j ↦ inr (inl j) ]
-          | inr (inl b) ↦ inr (inr (begun q w r g c path b))
-          | inr (inr b) ↦ inr (inr (b.0, b.1, steps g c b.2, b.3, b.4, b.5))
-        ]
+        | inl i ↦ elim (back q w l g i) [ inl j ↦ inl j | inr j ↦ inr (inl j) ]
+        | inr (inl b) ↦ inr (inr (begun q w r g c path b))
+        | inr (inr b) ↦ inr (inr (b.0, b.1, steps g c b.2, b.3, b.4, b.5))
+      ]
 
       behind_no_site : (n : NodeId) (b : Bool) → (if b then Some (Barrier n) else None) ≡ Some (Site v) → ⊥
       behind_no_site n true e = cc
@@ -426,8 +430,8 @@ module _ (v : NodeId) where
 
         pub site_entered : (c : Cut) → Reaches p barrier c (Site v) → BelongsTo c s.node.id ⊎ ((via : Point) × LeadsBy p barrier c (Site v) via × EntersAt via s.node.id)
         site_entered c r = elim (path_back r.path (point_lies p r.of_program) (target_heads r.to r.is_target)) [
-            | inl h ↦ absurd (cut_no_heads r.from c r.is_cut h)
-            | inr (inl b) ↦ inl (cut_begins r.from c r.is_cut b)
-            | inr (inr b) ↦ (let by : LeadsBy p barrier c (Site v) (Do b.0 ∷ b.1) = record { from = r.from; to = r.to; of_program = r.of_program; is_cut = r.is_cut; before = b.2; behind = b.3; is_target = r.is_target } in
-                inr (Do b.0 ∷ b.1, by, list_one p.body s b.0 rises makes b.5 has b.4))
-          ]
+          | inl h ↦ absurd (cut_no_heads r.from c r.is_cut h)
+          | inr (inl b) ↦ inl (cut_begins r.from c r.is_cut b)
+          | inr (inr b) ↦ (let by : LeadsBy p barrier c (Site v) (Do b.0 ∷ b.1) = record { from = r.from; to = r.to; of_program = r.of_program; is_cut = r.is_cut; before = b.2; behind = b.3; is_target = r.is_target } in
+              inr (Do b.0 ∷ b.1, by, list_one p.body s b.0 rises makes b.5 has b.4))
+        ]

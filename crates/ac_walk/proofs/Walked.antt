@@ -122,9 +122,9 @@ module _ (p : Program) (rises : Rises 0 (nodes_of_list p.body)) (barrier : ℕ �
                 | inl i ↦ in_test i
                 | inr (f, g) ↦ elim (block_in barrier t via m enters leading body (Turn n (Some test) (block body) ∷ []) rest (rises_right 0 T B inner)
                     (turn_apart n (T ++ B) B own_first (λ y i. listed_right T B y i)) g) [
-                  | inl i ↦ listed_right (test.node.id ∷ lefts t test.kind) more m (unless_in (is_in_cond t test.kind) (block_entered barrier t body) m f i)
-                  | inr (h, j) ↦ absurd (turn_in barrier t via m enters leading n (Some test) (block body) rest j)
-                ]
+                      | inl i ↦ listed_right (test.node.id ∷ lefts t test.kind) more m (unless_in (is_in_cond t test.kind) (block_entered barrier t body) m f i)
+                      | inr (h, j) ↦ absurd (turn_in barrier t via m enters leading n (Some test) (block body) rest j)
+                    ]
               ]))
           | inr (inl e) ↦ own_named p rises barrier t (cut.Head n) s m sts after d (inr (
               elim (test_in barrier t via m enters leading test (Exit n ∷ rest) rt (λ y i j. j) (moved l.0 (Judge test ∷ Exit n ∷ rest) e l.2)) [
@@ -256,9 +256,9 @@ module _ (p : Program) (cuts : List Cut) (c : Cut) (t : Target) (numbered : IsNu
 
   site_named : (u : Target) (st : Stmt) → u ≡ t → Has p.body st → IsAccessOf u st → IsListed (walk_of p cuts (record { cut = c; target = t })) st.node.id
   site_named (Site v) st e h a = elim (site_entered v p (has_barrier cuts) rising st h a c (subst (λ (w : Target). Reaches p (has_barrier cuts) c w) (sym e) reached)) [
-      | inl b ↦ own_walked st.node.id b
-      | inr (via, by, k) ↦ entered_named via st.node.id (subst (λ (w : Target). LeadsBy p (has_barrier cuts) c w via) e by) k
-    ]
+    | inl b ↦ own_walked st.node.id b
+    | inr (via, by, k) ↦ entered_named via st.node.id (subst (λ (w : Target). LeadsBy p (has_barrier cuts) c w via) e by) k
+  ]
   site_named (Entry n) st e h a = absurd a
   site_named (Keep n) st e h a = absurd a
   site_named (Barrier n) st e h a = absurd a

@@ -1,3 +1,4 @@
 pub mod Opened
 pub mod Walks
 pub mod Visits
+pub mod Rising
