@@ -1,0 +1,10 @@
+pub mod OnPaths
+pub mod Standing
+pub mod Order
+pub mod FromCut
+pub mod Entered
+pub mod Named
+pub mod Covered
+pub mod SiteStatement
+pub mod Walked
+pub mod Rising
