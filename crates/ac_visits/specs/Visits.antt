@@ -79,7 +79,8 @@ IsAccessOf (Keep n) st = ⊥
 IsAccessOf (Barrier n) st = ⊥
 
 module _ (p : Program) (barrier : ℕ → Bool) (c : Cut) (t : Target) where
-  -- control leads from the cut to a point and from there to the target, and passes no other cut
+  -- control leads from the cut to a point and from there to the target, and passes no other cut; a point where control enters
+  -- a node is none
   pub record LeadsBy (via : Point) : Type 0 where
     pub from : Point
     pub to : Point
