@@ -1,5 +1,6 @@
--- Changes of shadow symbols have no loose `Bound`, as a substitution asks, and leave the values of the program.
-use Rattle.std.specs.Prelude.{◌≡◌, List, [], ◌∷◌}
+-- Changes of shadow symbols have no loose `Bound`, as a substitution asks. They leave the values of the program and the new
+-- names of a proof.
+use Rattle.std.specs.Prelude.{◌≡◌, ℕ, List, [], ◌∷◌}
 use Rattle.std.proofs.Common.{refl}
 use Rattle.ac_run.specs.Declarations.{NameBytes}
 use Rattle.ac_logic.specs.declared.formula.Change.{Change}
@@ -38,3 +39,21 @@ arrays_stay (Scalar (Value y) t ∷ cs) x h = absurd h.0
 arrays_stay (Scalar (Fresh k) t ∷ cs) x h = absurd h.0
 arrays_stay (Array (Value y) a ∷ cs) x h = absurd h.0
 arrays_stay (Array (Fresh k) a ∷ cs) x h = absurd h.0
+
+pub new_scalars_stay : (cs : List Change) (k : ℕ) → AreShadowChanges cs → scalar_after cs (Fresh k) ≡ ScalarOf (Fresh k)
+new_scalars_stay [] k h = refl
+new_scalars_stay (Scalar (Init y) t ∷ cs) k h = new_scalars_stay cs k h.1
+new_scalars_stay (Array (Init y) a ∷ cs) k h = new_scalars_stay cs k h.1
+new_scalars_stay (Scalar (Value y) t ∷ cs) k h = absurd h.0
+new_scalars_stay (Scalar (Fresh m) t ∷ cs) k h = absurd h.0
+new_scalars_stay (Array (Value y) a ∷ cs) k h = absurd h.0
+new_scalars_stay (Array (Fresh m) a ∷ cs) k h = absurd h.0
+
+pub new_arrays_stay : (cs : List Change) (k : ℕ) → AreShadowChanges cs → array_symbol_after cs (Fresh k) ≡ ArrayOf (Fresh k)
+new_arrays_stay [] k h = refl
+new_arrays_stay (Scalar (Init y) t ∷ cs) k h = new_arrays_stay cs k h.1
+new_arrays_stay (Array (Init y) a ∷ cs) k h = new_arrays_stay cs k h.1
+new_arrays_stay (Scalar (Value y) t ∷ cs) k h = absurd h.0
+new_arrays_stay (Scalar (Fresh m) t ∷ cs) k h = absurd h.0
+new_arrays_stay (Array (Value y) a ∷ cs) k h = absurd h.0
+new_arrays_stay (Array (Fresh m) a ∷ cs) k h = absurd h.0

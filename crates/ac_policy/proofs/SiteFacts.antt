@@ -24,7 +24,7 @@ use Rattle.ac_policy.specs.FittingStart.{front-nil, back-nil}
 use Rattle.ac_policy.specs.Laws.{IsPlainSite, IsIndexed, HasIndexesOf}
 use Rattle.ac_policy.specs.Plain.{IsPlainTerm}
 use Rattle.ac_policy.specs.PlainLaws.{literal_ground, scalar_ground}
-use Rattle.ac_policy.specs.Sites.{site_at, unless_constant, read_sites, expr_sites, index_sites, cond_sites, stmt_sites, block_sites, list_sites, sites_of}
+use Rattle.ac_policy.specs.Sites.{site_at, scalar_write, unless_constant, read_sites, expr_sites, index_sites, cond_sites, stmt_sites, block_sites, list_sites, sites_of}
 use Rattle.ac_policy.specs.Terms.{zero_term, term_of, first_index, second_index}
 use Rattle.ac_policy.specs.Opened.{hidden, expr_shape, expr_child, cond_shape, cond_child, term_shape, term_child, array_shape, array_child}
 
@@ -257,3 +257,11 @@ module _ (p : Program) (start : Start) where
 
 pub indexed_sites : (p : Program) (start : Start) (s : Site) → KeepsStaticRules p → Contains (sites_of p) s → IsIndexed p start s
 indexed_sites p start s kept h = in_all (IsIndexed p start) (sites_of p) s (list_indexed p start p.body (back-nil (items_faults [] p.items) (list_faults p.items [] p.body) kept)) h
+
+-- The variable of a `for`.
+
+pub variable_plain : (n : NodeId) (x : NameBytes) → IsPlainSite (scalar_write n x)
+variable_plain n x = record { first = zero_plain; second = zero_plain }
+
+pub variable_indexed : (p : Program) (start : Start) (n : NodeId) (x : NameBytes) → IsIndexed p start (scalar_write n x)
+variable_indexed p start n x = no_index p start (shape p start x)

@@ -12,10 +12,11 @@ use Rattle.ac_logic.specs.declared.formula.Formula.{Formula}
 use Rattle.ac_policy.specs.declared.any_policy.AnyPolicy.{AnyPolicy}
 use Rattle.ac_policy.specs.declared.any_policy.AnyPolicy.TheVariants.{Init, Bounds, Symm}
 use Rattle.ac_policy.specs.declared.site.Site.{Site}
-use Rattle.ac_policy.specs.Bounds.{bounds_need, no_shadow, no_effect, nothing_known}
+use Rattle.ac_policy.specs.Bounds.{bounds_need}
 use Rattle.ac_policy.specs.Init.{marks, init_need, init_effect, init_known}
 use Rattle.ac_policy.specs.State.{Shadow}
 use Rattle.ac_policy.specs.Symm.{symm_need}
+use Rattle.ac_policy.specs.WithoutShadow.{no_shadow, no_effect, nothing_known}
 
 abbrev pub name_of : AnyPolicy → PolicyName
 name_of Init = name.Init

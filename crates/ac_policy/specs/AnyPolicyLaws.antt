@@ -1,4 +1,5 @@
 -- The laws of the three policies, each by its cases.
+-- It serves the proofs of the laws: no promise rests on it.
 use Rattle.std.specs.Prelude.{[]}
 use Rattle.ac_tree.specs.declared.program.Program.{Program}
 use Rattle.ac_tree.specs.StaticRules.{KeepsStaticRules}

@@ -1,4 +1,5 @@
 -- The laws of bounds.
+-- It serves the proofs of the laws: no promise rests on it.
 use Rattle.std.proofs.Common.{◌≡◌, ℕ, ℤ, pos, ◌+ℤ◌, ◌≤ℤ◌, int_le, int_lt, List, [], Bool, true, false, ◌&&◌, refl, sym, ◌∙◌, subst, rules, arith}
 use Rattle.std.proofs.lemmas.Bool.{true≢false}
 use Rattle.std.proofs.lemmas.Int.{ints}
@@ -15,20 +16,21 @@ use Rattle.ac_policy.specs.declared.site.Site.{Site}
 use Rattle.ac_policy.specs.declared.site.SiteKind.{SiteKind}
 use Rattle.ac_policy.specs.declared.site.SiteKind.TheVariants as kind
 use Rattle.ac_policy.specs.State.{Shadow, IsScalar, Kept, state}
-use Rattle.ac_policy.specs.Laws.{LawForm, LawEffect, LawNeed, LawKnown, LawFor, HoldsIf, IsPlainIf, IsPlainSite, IsIndexed, HasIndexesOf, EventOf}
+use Rattle.ac_policy.specs.Laws.{LawForm, LawEffect, LawNeed, LawKnown, LawFor, HoldsIf, IsPlainIf, IsPlainSite, IsIndexed, HasIndexesOf, EventOf, cell_of}
 use Rattle.ac_policy.specs.declared.extents.ExtentTerms.{ExtentTerms}
 use Rattle.ac_policy.specs.declared.extents.ExtentTerms.TheVariants.{NoExtent, OneExtent, TwoExtents}
 use Rattle.ac_policy.specs.Extents.{index_within, indexes_within, extent_terms}
 use Rattle.ac_policy.specs.GoodExtents.{HasGoodExtents}
 use Rattle.ac_policy.specs.ExtentValues.{ExtentsAre, extents_are}
-use Rattle.ac_policy.specs.Bounds.{bounds_need, bounds_need_of, no_shadow, no_effect, nothing_known}
+use Rattle.ac_policy.specs.Bounds.{bounds_need, bounds_need_by_kind}
+use Rattle.ac_policy.specs.WithoutShadow.{no_shadow, no_effect, nothing_known}
 use Rattle.ac_policy.specs.PlainLaws.{extents_ground, within_plain}
 use Rattle.ac_policy.specs.Opened.{hidden, term_shape, term_child, array_shape, array_child, formula_shape, formula_child}
 
 pub form : (p : Program) → LawForm (bounds_need p) (no_effect p) nothing_known
 form p = record { changes = λ s h. tt; different = λ s. tt; needs = λ s h. by s h s.kind; knows = λ x. tt }
   where
-    by : (s : Site) → IsPlainSite s → (k : SiteKind) → IsPlainIf (bounds_need_of k p s)
+    by : (s : Site) → IsPlainSite s → (k : SiteKind) → IsPlainIf (bounds_need_by_kind k p s)
     by s h kind.Read = within_plain (extent_terms p s.name) s.i s.j (extents_ground p (kind_of p s.name)) h.first h.second
     by s h kind.Write = within_plain (extent_terms p s.name) s.i s.j (extents_ground p (kind_of p s.name)) h.first h.second
     by s h (kind.Hand role) = tt
@@ -73,8 +75,8 @@ module _ (p : Program) (start : Start) (m : Memory) (s : Shadow) (kept : Kept p 
   within (TwoExtents e f) Scalar i j q x h = absurd q
   within (TwoExtents e f) (Vector n) i j q x h = absurd q
 
-  needs_by : (good : HasGoodExtents p start) (roles : List NameBytes) (at : Site) (k : SiteKind) (trace : List Event) (e : Event) → IsIndexed p start at → HoldsIf (state p start m s) (bounds_need_of k p at) →
-      EventOf p start k at (state p start m s) m e → ¬ Bad p start roles Bounds trace e
+  needs_by : (good : HasGoodExtents p start) (roles : List NameBytes) (at : Site) (k : SiteKind) (trace : List Event) (e : Event) → IsIndexed p start at → HoldsIf (state p start m s) (bounds_need_by_kind k p at) →
+      EventOf p start k (cell_of (state p start m s) at) at.name m e → ¬ Bad p start roles Bounds trace e
   unfolding hidden term_shape term_child formula_shape formula_child
   needs_by good roles at kind.Read trace e pr h ev bad =
       let inside = within (extent_terms p at.name) (shape p start at.name) at.i at.j (extents_are p start m s kept (kind_of p at.name) (good at.name)) pr h in

@@ -1,4 +1,5 @@
 -- The term of an extent has the number of the extent, in every state of a run.
+-- It serves the proofs of the laws: no promise rests on it.
 use Rattle.std.proofs.Common.{◌≡◌, ℕ, ◌+◌, ◌^◌, ◌/◌, ◌%◌, nat_lt, if◌then◌else◌, ℤ, pos, negsuc, nat_abs, ◌≤ℤ◌, List, Bool, true, false, Option, Some, None, refl, ◌∙◌, ap, arith, get_or}
 use Rattle.std.proofs.lemmas.Int.{ints}
 use Rattle.std.proofs.Math.Nat.{div-add-mod}
@@ -19,7 +20,7 @@ use Rattle.ac_logic.specs.Meaning.{Valuation, value}
 use Rattle.ac_policy.specs.State.{Shadow, Kept, state, scalar_or}
 use Rattle.ac_policy.specs.declared.extents.ExtentTerms.{ExtentTerms}
 use Rattle.ac_policy.specs.declared.extents.ExtentTerms.TheVariants.{NoExtent, OneExtent, TwoExtents}
-use Rattle.ac_policy.specs.Terms.{constant_or, literal_term}
+use Rattle.ac_policy.specs.Terms.{constant_term_or, literal_term}
 use Rattle.ac_policy.specs.Extents.{extent_term, extent_terms_in}
 use Rattle.ac_policy.specs.GoodExtents.{IsGoodSize, IsGoodExtent, HasGoodKind}
 use Rattle.ac_policy.specs.Opened.{hidden, term_shape, term_child}
@@ -42,7 +43,7 @@ literal_value w e n = by (nat_lt n (2 ^ 63))
 
 module _ (p : Program) (start : Start) (m : Memory) (s : Shadow) (kept : Kept p start m) where
   named_is : (x : NameBytes) (k : Option ItemKind) → kind_of p x ≡ k → IsGoodSize k (numbers_in start.cells x) → (e : List ℤ) →
-      value (state p start m s) e (constant_or (constant_in k) (ScalarOf (Value x))) ≡ pos (named_extent p (constant_in k) (numbers_in start.cells x))
+      value (state p start m s) e (constant_term_or (constant_in k) (ScalarOf (Value x))) ≡ pos (named_extent p (constant_in k) (numbers_in start.cells x))
   unfolding hidden term_shape term_child
   named_is x (Some (Const v)) q h e = not_below v h
   named_is x (Some (InputScalar lo hi)) q h e =

@@ -1,4 +1,5 @@
 -- What a start that fits an accepted program gives: extents that are not below 0, a number for each cell, inputs in range.
+-- It serves the proofs of the laws: no promise rests on it.
 use Rattle.std.proofs.Common.{◌≡◌, ℕ, ◌<◌, ℤ, pos, List, [], ◌∷◌, ◌++◌, filter, Bool, true, false, not, ◌||◌, cond, Option, Some, None, is_some, refl, sym, ◌∙◌, ap, subst, if◌then◌else◌, ◌≤ℤ◌, int_lt, bytes_eq, rules, arith, append_assoc, length, All}
 use Rattle.std.specs.List.{AllByRecursion, AllZip, list_any}
 use Rattle.std.proofs.lemmas.Bool.{false≢true}

@@ -1,4 +1,5 @@
 -- What a start that fits says of the extents: their numbers are not below 0, and each array has a number for each cell.
+-- It serves the proofs of the laws: no promise rests on it.
 use Rattle.std.specs.Prelude.{◌≡◌, length, Option, Some, List, slice_index_or, ℤ, pos, ◌≤ℤ◌}
 use Rattle.ac_tree.specs.declared.program.Extent.{Extent}
 use Rattle.ac_tree.specs.declared.program.Extent.TheVariants.{Lit, Named}

@@ -1,5 +1,6 @@
--- The policy init: whatever is read was written. The shadow variable of a cell is 1 where an event of the trace wrote it.
-use Rattle.std.specs.Prelude.{Bool, true, false, ◌&&◌, if◌then◌else◌, List, [], ◌∷◌, Option, Some, None, ℤ, pos}
+-- The policy init: of a name that is no input, a cell that is read and each cell of a name that is used were written before.
+-- The shadow variable of a cell is its mark: 1 where an event of the trace wrote the cell, and 0 elsewhere.
+use Rattle.std.specs.Prelude.{Bool, ◌&&◌, if◌then◌else◌, List, [], ◌∷◌, Option, Some, None, ℤ, pos}
 use Rattle.std.specs.Ordering.{int_eq}
 use Rattle.std.specs.Str.{bytes_eq}
 use Rattle.ac_tree.specs.declared.program.Program.{Program}
@@ -25,7 +26,7 @@ use Rattle.ac_policy.specs.Opened.{hidden, term_shape, term_child, array_shape, 
 abbrev pub is_cell : Cell → NameBytes → ℤ → ℤ → Bool
 is_cell c x i j = bytes_eq c.name x && (int_eq c.i i && int_eq c.j j)
 
--- 1 for a cell that the trace wrote, and 0 elsewhere
+-- the marks after a trace
 abbrev pub marks : List Event → Shadow
 marks [] x i j = pos 0
 marks (event.Write c n ∷ trace) x i j = if is_cell c x i j then pos 1 else marks trace x i j
@@ -35,39 +36,38 @@ marks (event.Hand y role numbers ∷ trace) x i j = marks trace x i j
 abbrev pub mark : Term
 mark = Num (pos 1)
 
--- the cell at the indexes was written
-abbrev pub written_formula : ExtentTerms → NameBytes → Term → Term → Formula
+-- the cell at the indexes is marked
+abbrev pub marked_formula : ExtentTerms → NameBytes → Term → Term → Formula
 unfolding hidden term_shape term_child formula_shape formula_child
-written_formula extents x i j = Eq (cell_term extents (Init x) i j) mark
+marked_formula extents x i j = Eq (cell_term extents (Init x) i j) mark
 
--- every cell within the extents was written
-abbrev pub all_written_formula : ExtentTerms → NameBytes → Formula
-all_written_formula extents x = for_all_cells extents (written_formula extents x (row_index extents) (column_index extents))
+-- every cell within the extents is marked
+abbrev pub all_marked_formula : ExtentTerms → NameBytes → Formula
+all_marked_formula extents x = for_all_cells extents (marked_formula extents x (row_index extents) (column_index extents))
 
-abbrev pub init_need_of : Bool → SiteKind → Program → Site → Option Formula
-init_need_of true k p s = None
-init_need_of false kind.Read p s = Some (written_formula (extent_terms p s.name) s.name s.i s.j)
-init_need_of false kind.Write p s = None
-init_need_of false (kind.Hand role) p s = Some (all_written_formula (extent_terms p s.name) s.name)
+abbrev pub init_need_by_kind : SiteKind → Program → Site → Option Formula
+init_need_by_kind kind.Read p s = Some (marked_formula (extent_terms p s.name) s.name s.i s.j)
+init_need_by_kind kind.Write p s = None
+init_need_by_kind (kind.Hand role) p s = Some (all_marked_formula (extent_terms p s.name) s.name)
 
 -- nothing is to be shown of an input, nor of a write
 abbrev pub init_need : Program → Site → Option Formula
-init_need p s = init_need_of (is_input p s.name) s.kind p s
+init_need p s = if is_input p s.name then None else init_need_by_kind s.kind p s
 
--- the cell at the indexes is marked
+-- the change that marks the cell at the indexes
 abbrev pub marking : ExtentTerms → NameBytes → Term → Term → Change
 unfolding hidden term_shape term_child array_shape array_child
 marking NoExtent x i j = change.Scalar (Init x) mark
 marking (OneExtent e) x i j = change.Array (Init x) (PutOf (Array (Init x)) i j mark)
 marking (TwoExtents e f) x i j = change.Array (Init x) (PutOf (Array (Init x)) i j mark)
 
-abbrev pub init_effect_of : SiteKind → Program → Site → List Change
-init_effect_of kind.Read p s = []
-init_effect_of kind.Write p s = marking (extent_terms p s.name) s.name s.i s.j ∷ []
-init_effect_of (kind.Hand role) p s = []
+abbrev pub init_effect_by_kind : SiteKind → Program → Site → List Change
+init_effect_by_kind kind.Read p s = []
+init_effect_by_kind kind.Write p s = marking (extent_terms p s.name) s.name s.i s.j ∷ []
+init_effect_by_kind (kind.Hand role) p s = []
 
 abbrev pub init_effect : Program → Site → List Change
-init_effect p s = init_effect_of s.kind p s
+init_effect p s = init_effect_by_kind s.kind p s
 
 -- init(x) = 1
 abbrev pub init_known : NameBytes → Option Formula

@@ -1,4 +1,5 @@
 -- The laws of init.
+-- It serves the proofs of the laws: no promise rests on it.
 use Rattle.std.proofs.Common.{◌≡◌, ℕ, ℤ, pos, ◌+ℤ◌, ◌≤ℤ◌, int_le, int_lt, List, [], ◌∷◌, ◌++◌, Bool, true, false, ◌&&◌, Option, Some, None, refl, sym, ◌∙◌, ap, subst, if◌then◌else◌, rules, bytes_eq, suc, arith}
 use Rattle.std.specs.Ordering.{int_eq}
 use Rattle.std.proofs.lemmas.Bool.{false≢true}
@@ -34,7 +35,7 @@ use Rattle.ac_policy.specs.declared.extents.ExtentTerms.TheVariants.{NoExtent, O
 use Rattle.ac_policy.specs.Extents.{extent_terms, extent_terms_in}
 use Rattle.ac_policy.specs.GoodExtents.{HasGoodExtents}
 use Rattle.ac_policy.specs.ExtentValues.{ExtentsAre, extents_are}
-use Rattle.ac_policy.specs.Init.{is_cell, marks, mark, written_formula, all_written_formula, init_need_of, init_need, marking, init_effect_of, init_effect, init_known}
+use Rattle.ac_policy.specs.Init.{is_cell, marks, mark, marked_formula, all_marked_formula, init_need_by_kind, init_need, marking, init_effect_by_kind, init_effect, init_known}
 use Rattle.ac_policy.specs.PlainLaws.{extents_ground, marked_plain, all_marked_plain, marking_plain}
 use Rattle.ac_policy.specs.Opened.{hidden, term_shape, term_child, array_shape, array_child, formula_shape, formula_child}
 
@@ -57,17 +58,17 @@ form p = record {
   knows = λ x. record { closed = (tt, tt); unlabelled = refl; no_fresh = (tt, tt) };
 }
   where
-    change_of : (s : Site) → IsPlainSite s → (k : SiteKind) → AreShadowChanges (init_effect_of k p s)
+    change_of : (s : Site) → IsPlainSite s → (k : SiteKind) → AreShadowChanges (init_effect_by_kind k p s)
     change_of s h kind.Read = tt
     change_of s h kind.Write = (marking_plain (extent_terms p s.name) s.name s.i s.j h.first h.second, tt)
     change_of s h (kind.Hand role) = tt
 
-    different_of : (s : Site) (k : SiteKind) → AreDifferent (init_effect_of k p s)
+    different_of : (s : Site) (k : SiteKind) → AreDifferent (init_effect_by_kind k p s)
     different_of s kind.Read = tt
     different_of s kind.Write = (All-nil _, tt)
     different_of s (kind.Hand role) = tt
 
-    need_plain : (s : Site) → IsPlainSite s → (input : Bool) (k : SiteKind) → IsPlainIf (init_need_of input k p s)
+    need_plain : (s : Site) → IsPlainSite s → (input : Bool) (k : SiteKind) → IsPlainIf (if input then None else init_need_by_kind k p s)
     need_plain s h true k = tt
     need_plain s h false kind.Read = marked_plain (extent_terms p s.name) s.name s.i s.j h.first h.second
     need_plain s h false kind.Write = tt
@@ -176,7 +177,7 @@ above_zero i n e =
     next_first i n h = let k = strict i n h in omega (arith, ints)
 
 module _ (p : Program) (start : Start) (m : Memory) (trace : List Event) (kept : Kept p start m) where
-  read_marked : (s : Site) → IsIndexed p start s → (z : ExtentTerms) → HaveSameRank z (shape p start s.name) → Holds (state p start m (marks trace)) (written_formula z s.name s.i s.j) → Wrote trace (cell_of (state p start m (marks trace)) s)
+  read_marked : (s : Site) → IsIndexed p start s → (z : ExtentTerms) → HaveSameRank z (shape p start s.name) → Holds (state p start m (marks trace)) (marked_formula z s.name s.i s.j) → Wrote trace (cell_of (state p start m (marks trace)) s)
   unfolding hidden term_shape term_child array_shape array_child formula_shape formula_child
   read_marked s proper (OneExtent e) a h = marked trace s.name _ _ (element_one (shape p start s.name) _ h)
   read_marked s proper (TwoExtents e f) a h = marked trace s.name _ _ (element_one (shape p start s.name) _ h)
@@ -187,7 +188,7 @@ module _ (p : Program) (start : Start) (m : Memory) (trace : List Event) (kept :
       subst (λ (c : Cell). Wrote trace c) (λ t. cell s.name (value w [] (sym q.0 t)) (value w [] (sym q.1 t))) (marked trace s.name (pos 0) (pos 0) o.0)
 
   -- every cell of a name, by its shape
-  every_cell : (x : NameBytes) (z : ExtentTerms) (k : Shape) → shape p start x ≡ k → ExtentsAre p start m (marks trace) kept z k → Holds (state p start m (marks trace)) (all_written_formula z x) → (i j : ℤ) → is_within k i j ≡ true → marks trace x i j ≡ pos 1
+  every_cell : (x : NameBytes) (z : ExtentTerms) (k : Shape) → shape p start x ≡ k → ExtentsAre p start m (marks trace) kept z k → Holds (state p start m (marks trace)) (all_marked_formula z x) → (i j : ℤ) → is_within k i j ≡ true → marks trace x i j ≡ pos 1
   unfolding hidden term_shape term_child array_shape array_child formula_shape formula_child
   every_cell x NoExtent Scalar e q h i j f =
       let u = and_both (int_eq i (pos 0)) _ f in
@@ -211,13 +212,13 @@ module _ (p : Program) (start : Start) (m : Memory) (trace : List Event) (kept :
   every_cell x (TwoExtents t r) Scalar e q h i j f = absurd q
   every_cell x (TwoExtents t r) (Vector n) e q h i j f = absurd q
 
-  used_marked : HasGoodExtents p start → (x : NameBytes) → Holds (state p start m (marks trace)) (all_written_formula (extent_terms p x) x) → (c : Cell) → c.name ≡ x → is_inside p start c ≡ true → Wrote trace c
+  used_marked : HasGoodExtents p start → (x : NameBytes) → Holds (state p start m (marks trace)) (all_marked_formula (extent_terms p x) x) → (c : Cell) → c.name ≡ x → is_inside p start c ≡ true → Wrote trace c
   used_marked good x h c e f =
       let one_of = every_cell x (extent_terms p x) (shape p start x) refl (extents_are p start m (marks trace) kept (kind_of p x) (good x)) h c.i c.j (subst (λ (y : NameBytes). is_within (shape p start y) c.i c.j ≡ true) e f) in
       subst (λ (d : Cell). Wrote trace d) (λ t. record { name = sym e t; i = c.i; j = c.j }) (marked trace x c.i c.j one_of)
 
-  needs_by : HasGoodExtents p start → (roles : List NameBytes) (s : Site) (proper : IsIndexed p start s) (input : Bool) (k : SiteKind) (e : Event) → is_input p s.name ≡ input → HoldsIf (state p start m (marks trace)) (init_need_of input k p s) →
-      EventOf p start k s (state p start m (marks trace)) m e → ¬ Bad p start roles policy.Init trace e
+  needs_by : HasGoodExtents p start → (roles : List NameBytes) (s : Site) (proper : IsIndexed p start s) (input : Bool) (k : SiteKind) (e : Event) → is_input p s.name ≡ input → HoldsIf (state p start m (marks trace)) (if input then None else init_need_by_kind k p s) →
+      EventOf p start k (cell_of (state p start m (marks trace)) s) s.name m e → ¬ Bad p start roles policy.Init trace e
   unfolding hidden term_shape term_child array_shape array_child formula_shape formula_child
   needs_by good roles s proper true kind.Read e i h at bad = false≢true (sym (subst (λ (z : Event). Bad p start roles policy.Init trace z) at bad).0 ∙ i)
   needs_by good roles s proper true kind.Write e i h at bad = subst (λ (z : Event). Bad p start roles policy.Init trace z) at.1 bad
@@ -314,7 +315,7 @@ module _ (p : Program) (start : Start) (m : Memory) (trace : List Event) (s : Si
   table_by (TwoExtents t r) h y b e = ap (λ c. table_of (state p start m (marks trace)) [] (if c then array.Put (array.Sym (Init s.name)) s.i s.j mark else array.Sym (Init y))) e ∙ array_table y b (matrix_of t r (shape p start s.name) h) e
 
 effect_of_write : (p : Program) (start : Start) (m : Memory) (trace : List Event) (s : Site) (n : ℤ) → IsIndexed p start s →
-    TurnsShadowInto (state p start m (marks trace)) (init_effect_of kind.Write p s) (state p start m (marks (trace ++ (Write (cell_of (state p start m (marks trace)) s) n ∷ []))))
+    TurnsShadowInto (state p start m (marks trace)) (init_effect_by_kind kind.Write p s) (state p start m (marks (trace ++ (Write (cell_of (state p start m (marks trace)) s) n ∷ []))))
 effect_of_write p start m trace s n indexed =
     let h = have_same_rank p start (kind_of p s.name) in
     record {
@@ -325,7 +326,7 @@ effect_of_write p start m trace s n indexed =
 pub effects : (p : Program) (start : Start) → LawEffect p start marks (init_effect p)
 effects p start = record {
   write = λ m trace s n k indexed.
-      subst (λ (at : SiteKind). TurnsShadowInto (state p start m (marks trace)) (init_effect_of at p s) (state p start m (marks (trace ++ (Write (cell_of (state p start m (marks trace)) s) n ∷ [])))))
+      subst (λ (at : SiteKind). TurnsShadowInto (state p start m (marks trace)) (init_effect_by_kind at p s) (state p start m (marks (trace ++ (Write (cell_of (state p start m (marks trace)) s) n ∷ [])))))
       (sym k) (effect_of_write p start m trace s n indexed);
   read = λ trace c d x i j. marks_read trace c x i j d;
   hand = λ trace y role numbers d x i j. marks_hand trace y role numbers x i j d;

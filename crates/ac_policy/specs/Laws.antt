@@ -78,30 +78,34 @@ pub record TurnsShadowInto (w : Valuation) (changes : List Change) (after : Valu
   pub tables : (x : NameBytes) → (changed w changes).table (Init x) ≡ after.table (Init x)
 
 module _ (p : Program) (start : Start) where
+  -- a memory with the shadow of a trace
+  abbrev pub state_after : (List Event → Shadow) → Memory → List Event → Valuation
+  state_after shadow m trace = state p start m (shadow trace)
+
   -- Effect: a write turns the shadow into the one that its changes give; reads and uses leave it.
   pub record LawEffect (shadow : List Event → Shadow) (effect : Site → List Change) : Type 0 where
     pub write : (m : Memory) (trace : List Event) (s : Site) (n : ℤ) → s.kind ≡ kind.Write → IsIndexed p start s →
-        TurnsShadowInto (state p start m (shadow trace)) (effect s) (state p start m (shadow (trace ++ Write (cell_of (state p start m (shadow trace)) s) n ∷ [])))
+        TurnsShadowInto (state_after shadow m trace) (effect s) (state_after shadow m (trace ++ Write (cell_of (state_after shadow m trace) s) n ∷ []))
     pub read : (trace : List Event) (c : Cell) → shadow (trace ++ Read c ∷ []) ≡ shadow trace
     pub hand : (trace : List Event) (x role : NameBytes) (numbers : List ℤ) → shadow (trace ++ Hand x role numbers ∷ []) ≡ shadow trace
 
-  -- the event of a site in a state
-  abbrev pub EventOf : SiteKind → Site → Valuation → Memory → Event → Type 0
-  EventOf kind.Read s w m e = e ≡ Read (cell_of w s)
-  EventOf kind.Write s w m e = (n : ℤ) × (e ≡ Write (cell_of w s) n)
-  EventOf (kind.Hand role) s w m e = e ≡ Hand s.name role (contents p start m s.name)
+  -- the event of a site, by what is done there, and by the cell and the name of the site
+  abbrev pub EventOf : SiteKind → Cell → NameBytes → Memory → Event → Type 0
+  EventOf kind.Read c x m e = e ≡ Read c
+  EventOf kind.Write c x m e = (n : ℤ) × (e ≡ Write c n)
+  EventOf (kind.Hand role) c x m e = e ≡ Hand x role (contents p start m x)
 
   -- Need: in a state where the need of a site holds, or there is none, the event of the site is not bad.
   abbrev pub LawNeed : (List Event → Shadow) → (List Event → Event → Type 0) → (Site → Option Formula) → Type 0
   LawNeed shadow Bad need = (m : Memory) (trace : List Event) (s : Site) (e : Event) → Kept p start m → IsIndexed p start s →
-      HoldsIf (state p start m (shadow trace)) (need s) → EventOf s.kind s (state p start m (shadow trace)) m e → ¬ Bad trace e
+      HoldsIf (state_after shadow m trace) (need s) → EventOf s.kind (cell_of (state_after shadow m trace) s) s.name m e → ¬ Bad trace e
 
   -- Known: what is known of a scalar holds after a write of it, and after every later event.
   pub record LawKnown (shadow : List Event → Shadow) (known : NameBytes → Option Formula) : Type 0 where
     pub written : (m : Memory) (trace : List Event) (x : NameBytes) (n : ℤ) → IsScalar (shape p start x) →
-        HoldsIf (state p start m (shadow (trace ++ Write (scalar x) n ∷ []))) (known x)
-    pub later : (m k : Memory) (trace : List Event) (e : Event) (x : NameBytes) → HoldsIf (state p start m (shadow trace)) (known x) →
-        HoldsIf (state p start k (shadow (trace ++ e ∷ []))) (known x)
+        HoldsIf (state_after shadow m (trace ++ Write (scalar x) n ∷ [])) (known x)
+    pub later : (m k : Memory) (trace : List Event) (e : Event) (x : NameBytes) → HoldsIf (state_after shadow m trace) (known x) →
+        HoldsIf (state_after shadow k (trace ++ e ∷ [])) (known x)
 
   -- For: the write of the variable of a `for`, which has no site, is not bad.
   abbrev pub LawFor : (List Event → Event → Type 0) → Type 0

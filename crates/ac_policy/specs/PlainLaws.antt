@@ -1,4 +1,5 @@
 -- What the policies give is plain: the terms of extents, needs, effects and known facts.
+-- It serves the proofs of the laws: no promise rests on it.
 use Rattle.std.proofs.Common.{ℕ, ◌^◌, ◌/◌, ◌%◌, ◌<◌, nat_lt, ℤ, pos, Bool, true, false, Option, Some, None, refl, arith, if◌then◌else◌}
 use Rattle.ac_tree.specs.declared.program.Extent.{Extent}
 use Rattle.ac_tree.specs.declared.program.Extent.TheVariants.{Lit, Named}
@@ -14,11 +15,11 @@ use Rattle.ac_logic.specs.Patterns.{Scalar, Sum}
 use Rattle.ac_policy.specs.declared.extents.ExtentTerms.{ExtentTerms}
 use Rattle.ac_policy.specs.declared.extents.ExtentTerms.TheVariants.{NoExtent, OneExtent, TwoExtents}
 use Rattle.ac_policy.specs.Extents.{extent_term, extent_terms_in, indexes_within}
-use Rattle.ac_policy.specs.Init.{written_formula, all_written_formula, marking}
+use Rattle.ac_policy.specs.Init.{marked_formula, all_marked_formula, marking}
 use Rattle.ac_policy.specs.Laws.{IsPlainIf, IsShadowChange}
 use Rattle.ac_policy.specs.Plain.{HasNoFreshInTerm, IsPlain, IsPlainTerm}
 use Rattle.ac_policy.specs.Symm.{symmetric_formula}
-use Rattle.ac_policy.specs.Terms.{literal_term, constant_or, scalar_term}
+use Rattle.ac_policy.specs.Terms.{literal_term, constant_term_or, scalar_term}
 use Rattle.ac_policy.specs.Opened.{hidden, formula_shape, formula_child, term_shape, term_child, array_shape, array_child}
 
 -- no `Bound` stands in the term, so it is closed inside any number of `all`, and no new name
@@ -37,7 +38,7 @@ pub scalar_ground : (p : Program) (x : NameBytes) → IsGroundTerm (scalar_term 
 unfolding hidden term_shape term_child
 scalar_ground p x = by (constant_of p x)
   where
-    by : (o : Option ℤ) → IsGroundTerm (constant_or o (Scalar (Value x)))
+    by : (o : Option ℤ) → IsGroundTerm (constant_term_or o (Scalar (Value x)))
     by (Some n) = ((λ d. tt), tt)
     by None = ((λ d. tt), tt)
 
@@ -69,13 +70,13 @@ inner_of_two = omega arith
 outer_of_two : 1 < 2
 outer_of_two = omega arith
 
-pub marked_plain : (z : ExtentTerms) (x : NameBytes) (i j : Term) → IsPlainTerm i → IsPlainTerm j → IsPlain (written_formula z x i j)
+pub marked_plain : (z : ExtentTerms) (x : NameBytes) (i j : Term) → IsPlainTerm i → IsPlainTerm j → IsPlain (marked_formula z x i j)
 unfolding hidden formula_shape formula_child term_shape term_child array_shape array_child
 marked_plain NoExtent x i j h k = record { closed = (tt, tt); unlabelled = refl; no_fresh = (tt, tt) }
 marked_plain (OneExtent e) x i j h k = record { closed = ((tt, h.closed, k.closed), tt); unlabelled = refl; no_fresh = ((tt, h.no_fresh, k.no_fresh), tt) }
 marked_plain (TwoExtents e f) x i j h k = record { closed = ((tt, h.closed, k.closed), tt); unlabelled = refl; no_fresh = ((tt, h.no_fresh, k.no_fresh), tt) }
 
-pub all_marked_plain : (z : ExtentTerms) (x : NameBytes) → AreGroundExtents z → IsPlain (all_written_formula z x)
+pub all_marked_plain : (z : ExtentTerms) (x : NameBytes) → AreGroundExtents z → IsPlain (all_marked_formula z x)
 unfolding hidden formula_shape formula_child term_shape term_child array_shape array_child
 all_marked_plain NoExtent x g = record { closed = (tt, tt); unlabelled = refl; no_fresh = (tt, tt) }
 all_marked_plain (OneExtent e) x g = record {

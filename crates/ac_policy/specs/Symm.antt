@@ -35,10 +35,10 @@ abbrev pub when : Bool → Formula → Option Formula
 when true f = Some f
 when false f = None
 
-abbrev pub symm_need_of : List NameBytes → SiteKind → Program → Site → Option Formula
-symm_need_of roles kind.Read p s = None
-symm_need_of roles kind.Write p s = None
-symm_need_of roles (kind.Hand role) p s = when (is_listed roles role) (symmetric_formula (extent_terms p s.name) s.name)
+abbrev pub symm_need_by_kind : List NameBytes → SiteKind → Program → Site → Option Formula
+symm_need_by_kind roles kind.Read p s = None
+symm_need_by_kind roles kind.Write p s = None
+symm_need_by_kind roles (kind.Hand role) p s = when (is_listed roles role) (symmetric_formula (extent_terms p s.name) s.name)
 
 abbrev pub symm_need : List NameBytes → Program → Site → Option Formula
-symm_need roles p s = symm_need_of roles s.kind p s
+symm_need roles p s = symm_need_by_kind roles s.kind p s

@@ -1,4 +1,5 @@
 -- The laws of symm.
+-- It serves the proofs of the laws: no promise rests on it.
 use Rattle.std.proofs.Common.{◌≡◌, ℕ, zero, suc, ◌+◌, ◌*◌, ◌<◌, ℤ, pos, nat_abs, ◌+ℤ◌, ◌≤ℤ◌, List, [], ◌∷◌, Bool, true, false, ◌&&◌, ◌||◌, Option, Some, None, refl, sym, ◌∙◌, ap, subst, if◌then◌else◌, bytes_eq, Contains, length, arith, inl, inr, slice_get, get_or}
 use Rattle.std.proofs.lemmas.Int.{ints}
 use Rattle.std.proofs.lemmas.Option.{slice_get-get_or}
@@ -18,14 +19,14 @@ use Rattle.ac_policy.specs.declared.site.Site.{Site}
 use Rattle.ac_policy.specs.declared.site.SiteKind.{SiteKind}
 use Rattle.ac_policy.specs.declared.site.SiteKind.TheVariants as kind
 use Rattle.ac_policy.specs.State.{IsArray, Kept, state, element, element_or}
-use Rattle.ac_policy.specs.Laws.{LawForm, LawFor, LawNeed, IsPlainIf, EventOf, HoldsIf}
+use Rattle.ac_policy.specs.Laws.{LawForm, LawFor, LawNeed, IsPlainIf, EventOf, HoldsIf, cell_of}
 use Rattle.ac_policy.specs.declared.extents.ExtentTerms.{ExtentTerms}
 use Rattle.ac_policy.specs.declared.extents.ExtentTerms.TheVariants.{NoExtent, OneExtent, TwoExtents}
 use Rattle.ac_policy.specs.Extents.{extent_terms}
 use Rattle.ac_policy.specs.GoodExtents.{HasSizes}
 use Rattle.ac_policy.specs.ExtentValues.{ExtentsAre, extents_are}
-use Rattle.ac_policy.specs.Symm.{is_listed, symmetric_formula, when, symm_need_of, symm_need}
-use Rattle.ac_policy.specs.Bounds.{no_shadow, no_effect, nothing_known}
+use Rattle.ac_policy.specs.Symm.{is_listed, symmetric_formula, when, symm_need_by_kind, symm_need}
+use Rattle.ac_policy.specs.WithoutShadow.{no_shadow, no_effect, nothing_known}
 use Rattle.ac_policy.specs.BoundsLaws.{below}
 use Rattle.ac_policy.specs.PlainLaws.{extents_ground, symmetric_plain}
 use Rattle.ac_policy.specs.Opened.{hidden, term_shape, term_child, array_shape, array_child, formula_shape, formula_child}
@@ -37,7 +38,7 @@ form roles p = record { changes = λ s h. tt; different = λ s. tt; needs = λ s
     listed_plain s true = symmetric_plain (extent_terms p s.name) s.name (extents_ground p (kind_of p s.name))
     listed_plain s false = tt
 
-    by : (s : Site) (k : SiteKind) → IsPlainIf (symm_need_of roles k p s)
+    by : (s : Site) (k : SiteKind) → IsPlainIf (symm_need_by_kind roles k p s)
     by s kind.Read = tt
     by s kind.Write = tt
     by s (kind.Hand role) = listed_plain s (is_listed roles role)
@@ -132,8 +133,8 @@ module _ (p : Program) (start : Start) (m : Memory) (kept : Kept p start m) wher
       let a = no_array x (extent_terms p x) (shape p start x) q f in
       symmetric x (extent_terms p x) (shape p start x) refl q (kept.sizes x ∙ good.all_cells x a) f (subst (λ (ns : List ℤ). IsAsymmetric (shape p start x) ns) (plain_contents p start m x a) bad)
 
-  needs_by : (good : HasSizes p start) (roles : List NameBytes) (at : Site) (k : SiteKind) (trace : List Event) (e : Event) → HoldsIf w (symm_need_of roles k p at) →
-      EventOf p start k at w m e → ¬ Bad p start roles policy.Symm trace e
+  needs_by : (good : HasSizes p start) (roles : List NameBytes) (at : Site) (k : SiteKind) (trace : List Event) (e : Event) → HoldsIf w (symm_need_by_kind roles k p at) →
+      EventOf p start k (cell_of w at) at.name m e → ¬ Bad p start roles policy.Symm trace e
   unfolding hidden term_shape term_child array_shape array_child formula_shape formula_child
   needs_by good roles at kind.Read trace e h ev bad = subst (λ (z : Event). Bad p start roles policy.Symm trace z) ev bad
   needs_by good roles at kind.Write trace e h ev bad = subst (λ (z : Event). Bad p start roles policy.Symm trace z) ev.1 bad

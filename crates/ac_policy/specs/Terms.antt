@@ -23,14 +23,14 @@ literal_term n =
     if nat_lt n (2 ^ 63) then Num (pos n)
     else Sum (Sum (Num (pos (n / 2))) (Num (pos (n / 2)))) (Num (pos (n % 2)))
 
-abbrev pub constant_or : Option ℤ → Term → Term
-constant_or (Some value) t = Num value
-constant_or None t = t
+abbrev pub constant_term_or : Option ℤ → Term → Term
+constant_term_or (Some value) t = Num value
+constant_term_or None t = t
 
 module _ (p : Program) where
   -- the number of a constant, or the value of a scalar
   abbrev pub scalar_term : NameBytes → Term
-  scalar_term x = constant_or (constant_of p x) (Scalar (Value x))
+  scalar_term x = constant_term_or (constant_of p x) (Scalar (Value x))
 
   abbrev mutual
     unfolding hidden expr_shape expr_child term_shape term_child array_shape array_child

@@ -14,7 +14,7 @@ use std::alloc::{AllocError, Global};
 /// A policy that a policy file can select.
 #[derive(Drop)]
 pub enum AnyPolicy {
-    /// Whatever is read was written.
+    /// What is read or used of a name that is no input was written before.
     Init,
     /// Every access lies within the extents of its array.
     Bounds,

@@ -2,7 +2,7 @@
 ghost use Rattle.std.specs.Prelude.{◌≡◌, IfOk};
 ghost use Rattle.std.specs.Option.{option_copied};
 ghost use Rattle.ac_run.specs.Declarations.{kind_in, kind_of as declared_kind};
-ghost use Rattle.ac_policy.specs.Extents.{extent_term as term_of_extent, terms_of_extents, extent_terms_in, extent_terms as terms_in, index_within as is_within, indexes_within as are_within, cell_term as term_of_cell, row_index as row_of, column_index as column_of, for_all_cells as everywhere};
+ghost use Rattle.ac_policy.specs.Extents.{extent_term as term_of_extent, terms_of_extents, extent_terms_in, extent_terms as terms_in, index_within as within_formula, indexes_within as are_within, cell_term as term_of_cell, row_index as row_of, column_index as column_of, for_all_cells as everywhere};
 
 use crate::terms::{literal_term, scalar_term, zero};
 use ac_logic::{ArrayTerm, Formula, Sym, Term};
@@ -68,7 +68,7 @@ fn index_within(
     index: &Shared<Term>,
     extent: &Shared<Term>,
 ) -> Result<Shared<Formula>, AllocError>
-    ensures { IfOk result (λ f. f ≡ is_within index.now extent.now) }
+    ensures { IfOk result (λ f. f ≡ within_formula index.now extent.now) }
 {
     let zero = zero(alloc)?;
     let lower = Shared::new(alloc, Formula::Le(zero, index.share()?))?;

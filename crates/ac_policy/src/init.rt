@@ -1,7 +1,7 @@
 //! The formulas of init: the shadow variable of a cell is 1 where the cell was written.
 ghost use Rattle.std.specs.Prelude.{◌≡◌, IfOk, Some};
 ghost use Rattle.ac_run.specs.Declarations.{is_input as is_input_name};
-ghost use Rattle.ac_policy.specs.Init.{init_need, init_effect, init_known, written_formula, all_written_formula, marking as marking_of};
+ghost use Rattle.ac_policy.specs.Init.{init_need, init_effect, init_known, marked_formula, all_marked_formula, marking as marking_of};
 
 use crate::extents::{
     ExtentTerms, cell_term, column_index, extent_terms, for_all_cells, row_index,
@@ -22,7 +22,7 @@ fn is_input(program: &Program, name: &Name) -> bool
     }
 }
 
-/// The cell at the indexes was written.
+/// The cell at the indexes is marked.
 fn marked(
     alloc: Global,
     extents: &ExtentTerms,
@@ -30,20 +30,20 @@ fn marked(
     i: &Shared<Term>,
     j: &Shared<Term>,
 ) -> Result<Shared<Formula>, AllocError>
-    ensures { IfOk result (λ f. f ≡ written_formula extents.now name.now i.now j.now) }
+    ensures { IfOk result (λ f. f ≡ marked_formula extents.now name.now i.now j.now) }
 {
     let value = cell_term(alloc, extents, Sym::Init(name.clone()?), i, j)?;
     let mark = Shared::new(alloc, Term::Num(1))?;
     Shared::new(alloc, Formula::Eq(value, mark))
 }
 
-/// Every cell of the name was written.
+/// Every cell of the name is marked.
 fn marked_everywhere(
     alloc: Global,
     extents: &ExtentTerms,
     name: &Name,
 ) -> Result<Shared<Formula>, AllocError>
-    ensures { IfOk result (λ f. f ≡ all_written_formula extents.now name.now) }
+    ensures { IfOk result (λ f. f ≡ all_marked_formula extents.now name.now) }
 {
     let i = row_index(alloc, extents)?;
     let j = column_index(alloc, extents)?;

@@ -4,7 +4,9 @@
 //! does to its shadow variables, and what it knows of a written scalar. The trait `Policy` has beside these the meaning of a
 //! policy and the laws that join both, so that a proof over every policy needs nothing else. `specs/` says, in this order,
 //! the terms of expressions, the sites of a program, the valuation of a state, formulas on the cells of an array, the three
-//! policies, and the laws. Its files `GoodExtents`, `ExtentValues`, `FittingStart` and `..Laws` hold their proofs.
+//! policies, what a plain formula is, and the laws. Reading may stop at `Laws`: the files after it, `GoodExtents`,
+//! `ExtentValues`, `FittingStart` and those whose names end in `Laws`, prove that the three policies have the laws, and no
+//! promise rests on them.
 #![tactic(auto, unfolding(crate::specs::Opened::formula_shape, crate::specs::Opened::formula_child, crate::specs::Opened::term_shape, crate::specs::Opened::term_child, crate::specs::Opened::array_shape, crate::specs::Opened::array_child, crate::specs::Opened::expr_shape, crate::specs::Opened::expr_child, crate::specs::Opened::cond_shape, crate::specs::Opened::cond_child, crate::specs::Opened::stmt_shape, crate::specs::Opened::stmt_child, crate::specs::Opened::hidden))]
 
 mod any_policy;

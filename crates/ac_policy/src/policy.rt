@@ -22,16 +22,19 @@ use std::alloc::{AllocError, Global};
 ///
 /// A proof over every policy uses its meaning and its laws alone.
 pub trait Policy {
-    /// What the shadow variables are after a trace: a table of numbers for each name.
+    /// What the shadow variables of a program are after a trace from a start: a table of numbers for each name.
     ghost shadow: { Self → AnyProgram → started.Start → List Event → Shadow };
 
-    /// The events that are bad after a trace.
+    /// The events that are bad after a trace from a start.
     ghost bad: { Self → AnyProgram → started.Start → List Event → Event → Type 0 };
 
+    /// The formula that `need` gives.
     ghost need_of: { Self → AnyProgram → AnySite → Option AnyFormula };
 
+    /// The changes that `effect` gives, in their order.
     ghost effect_of: { Self → AnyProgram → AnySite → List AnyChange };
 
+    /// The formula that `known` gives.
     ghost known_of: { Self → NameBytes → Option AnyFormula };
 
     /// What is to be shown at a site; none where the site is not subject to the policy.
@@ -56,14 +59,17 @@ pub trait Policy {
     fn known(&self, alloc: Global, name: &Name) -> Result<Option<Shared<Formula>>, AllocError>
         ensures { IfOk result (λ found. found ≡ known_of self.now name.now) };
 
-    /// The changes of a write are of different shadow variables, and what a policy gives has no label, no new name of a
-    /// proof and no loose `Bound`.
+    /// The changes of a write are of different shadow variables. Where the terms of a site have no new name of a proof and no
+    /// loose `Bound`, what a policy gives at it has none either, and no label; nor has what it knows of a scalar.
     ghost law_form: { (self : Self) (p : AnyProgram) → LawForm (need_of self p) (effect_of self p) (known_of self) };
 
-    /// A write turns the shadow into the one that its changes give; reads and uses leave it.
+    /// A write turns the shadow into the one that its changes give, at a site that has as many indexes as its name has extents;
+    /// reads and uses leave it.
     ghost law_effect: { (self : Self) (p : AnyProgram) (start : started.Start) → LawEffect p start (shadow self p start) (effect_of self p) };
 
-    /// In a state where the need of a site holds, or there is none, the event of the site is not bad.
+    /// In a state where the need of a site holds, or there is none, the event of the site is not bad: in a program that keeps
+    /// the static rules, from a start that fits it, at a site that has as many indexes as its name has extents, and in a memory
+    /// that keeps of the start how many numbers each name has and the numbers of the inputs.
     ghost law_need: { (self : Self) (p : AnyProgram) (start : started.Start) → KeepsStaticRules p → Fits p start → LawNeed p start (shadow self p start) (bad self p start) (need_of self p) };
 
     /// What is known of a scalar holds after a write of it, and after every later event.
