@@ -6,6 +6,7 @@ ghost use Rattle.ac_tree.specs.declared.path.Target.{Target};
 ghost use Rattle.ac_tree.specs.declared.path.Target.TheVariants as target;
 ghost use Rattle.ac_tree.specs.declared.policy.PolicyName.{PolicyName};
 ghost use Rattle.ac_tree.specs.declared.program.Program.{Program};
+ghost use Rattle.ac_tree.specs.Preorder.{IsNumbered};
 ghost use Rattle.ac_flow.specs.Cuts.{has_barrier, has_place};
 ghost use Rattle.ac_flow.specs.Listed.{IsListed};
 ghost use Rattle.ac_flow.specs.Pairs.{is_subject, pairs_of};
@@ -32,6 +33,12 @@ pub fn weights_law()
 /// of the annotations and the subject nodes are those of the accesses at which the policy needs something.
 pub fn conditions_follow_pairs()
     ensures { (program : Program) (policy : PolicyName) (part : Part) (cuts : List Cut) (subject : List NodeId) → ((n : NodeId) → has_barrier cuts n.0 ≡ is_any (part.behind n)) → AreMarked program part.need (is_subject subject) → (c : Cut) (t : Target) → IsListed (map (λ x. x.pair) (part_conditions program policy part)) (record { cut = c; target = t }) ↔ IsListed (pairs_of program cuts subject) (record { cut = c; target = t }) }
+{}
+
+/// The law that the conditions stand in the order of the pairs of control flow, by target and then by cut, with one condition for
+/// each pair: where the nodes of the program are numbered in preorder, the pairs of the conditions are that very list.
+pub fn conditions_stand_in_order()
+    ensures { (program : Program) (policy : PolicyName) (part : Part) (cuts : List Cut) (subject : List NodeId) → IsNumbered program → ((n : NodeId) → has_barrier cuts n.0 ≡ is_any (part.behind n)) → AreMarked program part.need (is_subject subject) → map (λ x. x.pair) (part_conditions program policy part) ≡ pairs_of program cuts subject }
 {}
 
 /// The law that each subject site is the target of a condition.
