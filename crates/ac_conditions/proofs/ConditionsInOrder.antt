@@ -40,25 +40,25 @@ use Rattle.ac_conditions.specs.Targets.{site_targets, stmt_targets, block_target
 
 -- targets
 
-abbrev Stand : List Target → List NodeId → Type 0
+abbrev pub Stand : List Target → List NodeId → Type 0
 Stand ts ns = IsSublist ts (targets_at ns)
 
 below_one : (ts : List Target) (n : NodeId) (ns : List NodeId) → Stand ts ns → Stand ts (n ∷ ns)
 below_one ts n ns h = late ts (target.Entry n ∷ target.Keep n ∷ target.Barrier n ∷ target.Site n ∷ []) (targets_at ns) h
 
-sites_join : (xs ys : List Site) (ns ms : List NodeId) → Stand (site_targets xs) ns → Stand (site_targets ys) ms → Stand (site_targets (xs ++ ys)) (ns ++ ms)
+pub sites_join : (xs ys : List Site) (ns ms : List NodeId) → Stand (site_targets xs) ns → Stand (site_targets ys) ms → Stand (site_targets (xs ++ ys)) (ns ++ ms)
 sites_join xs ys ns ms h k =
     subst (λ (ts : List Target). Stand ts (ns ++ ms)) (sym (map_append (λ (s : Site). target.Site s.node) xs ys)) (targets_join (site_targets xs) (site_targets ys) ns ms h k)
 
 module _ (p : Program) where
-  read_stands : (n : NodeId) (o : Option ℤ) (x : NameBytes) (i j : Term) → Stand (site_targets (unless_constant o (site_at n kind.Read x i j))) (n ∷ [])
+  pub read_stands : (n : NodeId) (o : Option ℤ) (x : NameBytes) (i j : Term) → Stand (site_targets (unless_constant o (site_at n kind.Read x i j))) (n ∷ [])
   read_stands n (Some v) x i j = tt
   read_stands n None x i j = inr (inr (inr (inl (refl, tt))))
 
   mutual
     unfolding hidden expr_shape expr_child
 
-    expr_stands : (n : NodeId) (e : ExprKind) → Stand (site_targets (expr_sites p n e)) (n ∷ inside_expr e)
+    pub expr_stands : (n : NodeId) (e : ExprKind) → Stand (site_targets (expr_sites p n e)) (n ∷ inside_expr e)
     expr_stands n (Num k) = tt
     expr_stands n (Get x) = read_stands n (constant_of p x) x zero_term zero_term
     expr_stands n (Read x at) =
@@ -72,11 +72,11 @@ module _ (p : Program) where
     expr_stands n (Times k a m b) = below_one (site_targets (expr_sites p k.id a ++ expr_sites p m.id b)) n ((k.id ∷ inside_expr a) ++ (m.id ∷ inside_expr b))
         (sites_join (expr_sites p k.id a) (expr_sites p m.id b) (k.id ∷ inside_expr a) (m.id ∷ inside_expr b) (expr_stands k.id a) (expr_stands m.id b))
 
-    index_stands : (at : Index) → Stand (site_targets (index_sites p at)) (inside_index at)
+    pub index_stands : (at : Index) → Stand (site_targets (index_sites p at)) (inside_index at)
     index_stands (OneIndex k a) = expr_stands k.id a
     index_stands (TwoIndexes k a m b) = sites_join (expr_sites p k.id a) (expr_sites p m.id b) (k.id ∷ inside_expr a) (m.id ∷ inside_expr b) (expr_stands k.id a) (expr_stands m.id b)
 
-  cond_stands : (c : CondKind) → Stand (site_targets (cond_sites p c)) (inside_cond c)
+  pub cond_stands : (c : CondKind) → Stand (site_targets (cond_sites p c)) (inside_cond c)
   unfolding hidden cond_shape cond_child
   cond_stands True = tt
   cond_stands False = tt
@@ -90,7 +90,7 @@ module _ (p : Program) where
       sites_join (cond_sites p c) (cond_sites p d) (n.id ∷ inside_cond c) (m.id ∷ inside_cond d)
       (below_one (site_targets (cond_sites p c)) n.id (inside_cond c) (cond_stands c)) (below_one (site_targets (cond_sites p d)) m.id (inside_cond d) (cond_stands d))
 
-  test_stands : (n : NodeId) (c : CondKind) → Stand (site_targets (cond_sites p c)) (n ∷ inside_cond c)
+  pub test_stands : (n : NodeId) (c : CondKind) → Stand (site_targets (cond_sites p c)) (n ∷ inside_cond c)
   test_stands n c = below_one (site_targets (cond_sites p c)) n (inside_cond c) (cond_stands c)
 
   -- the targets of a barrier alone, and of a loop, before those inside
@@ -106,7 +106,7 @@ module _ (p : Program) where
       subst (λ (is : List NodeId). Stand (site_targets (xs ++ ys) ++ ts) is) (append_assoc ns ms ks) (targets_join (site_targets (xs ++ ys)) ts (ns ++ ms) ks (sites_join xs ys ns ms h k) l)
 
   mutual
-    stmt_stands : (n : NodeId) (s : StmtKind) → Stand (stmt_targets p n s) (n ∷ inside_stmt s)
+    pub stmt_stands : (n : NodeId) (s : StmtKind) → Stand (stmt_targets p n s) (n ∷ inside_stmt s)
     stmt_stands n (Set x e) = inr (inr (inl (refl, inl (refl, expr_stands e.node.id e.kind))))
     stmt_stands n (Put x at e) =
         inr (inr (inl (refl, inl (refl, sites_join (index_sites p at) (expr_sites p e.node.id e.kind) (inside_index at) (e.node.id ∷ inside_expr e.kind) (index_stands at) (expr_stands e.node.id e.kind)))))
@@ -125,11 +125,11 @@ module _ (p : Program) where
     stmt_stands n (Hand x role) = inr (inr (inl (refl, inl (refl, tt))))
     stmt_stands n Skip = inr (inr (inl (refl, tt)))
 
-    row_stands : {k : _} (row : Row_of-Stmt k) → Stand (block_targets p row) (nodes_of_row row)
+    pub row_stands : {k : _} (row : Row_of-Stmt k) → Stand (block_targets p row) (nodes_of_row row)
     row_stands end_of-Stmt = tt
     row_stands (more_of-Stmt n st rest) = targets_join (stmt_targets p n.id st) (block_targets p rest) (n.id ∷ inside_stmt st) (nodes_of_row rest) (stmt_stands n.id st) (row_stands rest)
 
-  list_stands : (block : List Stmt) → Stand (list_targets p block) (nodes_of_list block)
+  pub list_stands : (block : List Stmt) → Stand (list_targets p block) (nodes_of_list block)
   list_stands [] = tt
   list_stands (st ∷ rest) = targets_join (stmt_targets p st.node.id st.kind) (list_targets p rest) (st.node.id ∷ inside_stmt st.kind) (nodes_of_list rest) (stmt_stands st.node.id st.kind) (list_stands rest)
 

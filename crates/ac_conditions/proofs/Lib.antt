@@ -10,3 +10,5 @@ pub mod PairsInOrder
 pub mod ConditionsInOrder
 pub mod FlowInOrder
 pub mod OneOrder
+pub mod BarriersOfCuts
+pub mod NodesMarked
