@@ -5,3 +5,10 @@ pub mod PairsMatch
 pub mod PairsOfConditions
 pub mod SitesAimedAt
 pub mod Barriers
+pub mod Sublists
+pub mod PairsInOrder
+pub mod ConditionsInOrder
+pub mod FlowInOrder
+pub mod OneOrder
+pub mod BarriersOfCuts
+pub mod NodesMarked

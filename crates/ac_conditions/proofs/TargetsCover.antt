@@ -178,7 +178,7 @@ module _ (p : Program) (q : PolicyName) (part : Part) (t : Target) where
   pub none_aims : Apart t (list_targets p p.body) → conditions_at p q part t ≡ []
   none_aims h = nothing_joined _ _ (no_condition Start (ranges p p.items) _ (none_list p.body None h refl)) (none_aims_list (ranges p p.items) p.body None h refl)
 
-same_number : (n m : ℕ) → nat_eq n m ≡ true → n ≡ m
+pub same_number : (n m : ℕ) → nat_eq n m ≡ true → n ≡ m
 same_number n m h = search rules
 
 pub same_target : (t u : Target) → is_same t u ≡ true → t ≡ u

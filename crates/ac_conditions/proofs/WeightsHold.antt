@@ -141,3 +141,10 @@ module _ (join : ℕ → ℕ → ℕ) (grows : (a b c d : ℕ) → a ≤ c → b
   weight_grows (Implication f g) = let h = grows _ _ _ _ (weight_grows f) (weight_grows g) in omega (arith, h)
   weight_grows (Every f) = let h = weight_grows f in omega (arith, h)
   weight_grows (Labelled l f) = let h = weight_grows f in omega (arith, h)
+
+module _ (u v : Weights) (scalars : (s : Sym) → u.scalar s ≤ v.scalar s) (arrays : (s : Sym) → u.array s ≤ v.array s) where
+  pub size_grows : (f : Formula) → weight ◌+◌ u f ≤ weight ◌+◌ v f
+  size_grows f = weight_grows ◌+◌ (λ a b c d h k. omega (arith, h, k)) u v scalars arrays f
+
+  pub depth_grows : (f : Formula) → weight max u f ≤ weight max v f
+  depth_grows f = weight_grows max (λ a b c d h k. omega (arith, h, k)) u v scalars arrays f

@@ -9,5 +9,6 @@ pub mod Conditions
 pub mod Targets
 pub mod AllConditions
 pub mod Marked
+pub mod Statements
 pub mod Weights
 pub mod Examples

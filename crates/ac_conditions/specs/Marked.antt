@@ -1,7 +1,7 @@
 -- Accesses that are subject to a policy. The list of pairs goes by marked nodes, and conditions go by what the policy needs at
 -- sites; here both say the same of each access: a node is marked where the policy needs something at the site there. The read of
 -- a constant is no site.
-use Rattle.std.specs.Prelude.{◌≡◌, ℕ, Bool, List, [], ◌∷◌, Option, is_some}
+use Rattle.std.specs.Prelude.{◌≡◌, ℕ, Bool, if◌then◌else◌, List, [], ◌∷◌, Option, is_some}
 use Rattle.std.specs.List.{list_any}
 use Rattle.ac_tree.specs.declared.node.NodeId.{NodeId}
 use Rattle.ac_tree.specs.declared.program.CondKind.{CondKind}
@@ -71,3 +71,8 @@ module _ (p : Program) (need : Site → Option Formula) (subject : ℕ → Bool)
 -- the accesses of a program
 abbrev pub AreMarked : Program → (Site → Option Formula) → (ℕ → Bool) → Type 0
 AreMarked p need subject = ListMarked p need subject p.body
+
+-- the nodes of the sites at which the policy needs something
+abbrev pub needed_nodes : (Site → Option Formula) → List Site → List NodeId
+needed_nodes need [] = []
+needed_nodes need (s ∷ rest) = if is_some (need s) then s.node ∷ needed_nodes need rest else needed_nodes need rest
