@@ -1,10 +1,10 @@
 -- The cuts have the barriers of the places, where these are behind statements.
-use Rattle.std.proofs.Common.{◌≡◌, ℕ, nat_eq, List, [], ◌∷◌, ◌++◌, Bool, true, false, ◌&&◌, ◌||◌, refl, sym, ◌∙◌, ap, subst, if◌then◌else◌}
+use Rattle.std.proofs.Common.{◌≡◌, ℕ, nat_eq, List, [], ◌∷◌, ◌++◌, Bool, true, false, ◌&&◌, ◌||◌, refl, sym, ◌∙◌, ap, if◌then◌else◌}
 use Rattle.std.specs.List.{list_any}
 use Rattle.std.proofs.lemmas.Bool.{true≢false}
 use Rattle.ac_tree.specs.declared.node.NodeId.{NodeId}
 use Rattle.ac_tree.specs.declared.path.Cut.{Cut}
-use Rattle.ac_tree.specs.declared.path.Cut.TheVariants.{Start, Head, Exit, After}
+use Rattle.ac_tree.specs.declared.path.Cut.TheVariants.{After}
 use Rattle.ac_tree.specs.declared.path.Place.{Place}
 use Rattle.ac_tree.specs.declared.program.Program.{Program}
 use Rattle.ac_tree.specs.declared.program.Stmt.{Stmt}

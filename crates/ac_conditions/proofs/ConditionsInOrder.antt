@@ -1,5 +1,5 @@
 -- The conditions stand by target and then by cut, in the order of the nodes.
-use Rattle.std.proofs.Common.{◌≡◌, List, [], ◌∷◌, ◌++◌, map, Option, Some, None, ℤ, refl, sym, ap, subst, append_assoc, inl, inr}
+use Rattle.std.proofs.Common.{◌≡◌, List, [], ◌∷◌, ◌++◌, Option, Some, None, ℤ, refl, sym, ap, subst, append_assoc, inl, inr}
 use Rattle.ac_tree.specs.declared.node.NodeId.{NodeId}
 use Rattle.ac_tree.specs.declared.path.Cut.{Cut}
 use Rattle.ac_tree.specs.declared.path.Cut.TheVariants.{Start, Head, Exit, After}
@@ -27,7 +27,7 @@ use Rattle.ac_policy.specs.declared.site.SiteKind.TheVariants as kind
 use Rattle.ac_policy.specs.Sites.{site_at, unless_constant, read_sites, expr_sites, index_sites, cond_sites}
 use Rattle.ac_policy.specs.Terms.{zero_term, first_index, second_index}
 use Rattle.ac_conditions.proofs.Parts.{pairs_in}
-use Rattle.ac_conditions.proofs.PairsInOrder.{targets_at, cuts_at, all_pairs, fewer_cuts, fewer_targets, fewer_pairs, targets_join, cuts_append}
+use Rattle.ac_conditions.proofs.PairsInOrder.{targets_at, cuts_at, all_pairs, fewer_cuts, fewer_targets, fewer_pairs, targets_join}
 use Rattle.ac_conditions.proofs.Sublists.{IsSublist, skip, late, early, joined, same, through, mapped, map_append}
 use Rattle.ac_conditions.specs.AllConditions.{at_each, part_conditions}
 use Rattle.ac_conditions.specs.Conditions.{condition, barrier_condition, conditions, block_conditions, list_conditions, conditions_at}

@@ -12,3 +12,5 @@ pub mod FlowInOrder
 pub mod OneOrder
 pub mod BarriersOfCuts
 pub mod NodesMarked
+pub mod LabelsFit
+pub mod ConditionsFit

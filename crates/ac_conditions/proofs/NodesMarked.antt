@@ -1,5 +1,5 @@
 -- The nodes of the sites at which the policy needs something mark the accesses: the nodes are different, so each has its own site.
-use Rattle.std.proofs.Common.{◌≡◌, ◌⊎◌, ℕ, zero, suc, nat_eq, ◌+◌, ◌≤◌, List, [], ◌∷◌, ◌++◌, Bool, true, false, ◌&&◌, ◌||◌, Option, Some, None, is_some, ℤ, refl, sym, ◌∙◌, ap, subst, arith, inl, inr, if◌then◌else◌}
+use Rattle.std.proofs.Common.{◌≡◌, ℕ, zero, suc, nat_eq, ◌+◌, ◌≤◌, List, [], ◌∷◌, ◌++◌, Bool, true, false, ◌&&◌, ◌||◌, Option, Some, None, is_some, ℤ, refl, sym, ◌∙◌, ap, subst, arith, inl, inr, if◌then◌else◌}
 use Rattle.std.specs.List.{list_any}
 use Rattle.std.proofs.lemmas.Bool.{eq-eqb}
 use Rattle.ac_tree.specs.declared.node.NodeId.{NodeId}
@@ -19,18 +19,18 @@ use Rattle.ac_tree.specs.Preorder.{inside_expr, inside_index, inside_cond, insid
 use Rattle.ac_tree.proofs.NodeLaws.{numbered_in_preorder}
 use Rattle.ac_run.specs.Declarations.{constant_of}
 use Rattle.ac_flow.specs.Listed.{IsListed}
-use Rattle.ac_flow.specs.Pairs.{is_node, is_subject}
+use Rattle.ac_flow.specs.Pairs.{is_subject}
 use Rattle.ac_logic.specs.declared.formula.Formula.{Formula}
 use Rattle.ac_policy.specs.declared.site.Site.{Site}
 use Rattle.ac_policy.specs.declared.site.SiteKind.TheVariants as kind
 use Rattle.ac_policy.specs.Sites.{site_at, unless_constant, read_sites, scalar_write, expr_sites, index_sites, cond_sites, stmt_sites, block_sites, list_sites, sites_of}
 use Rattle.ac_policy.specs.Terms.{zero_term, first_index, second_index}
 use Rattle.ac_conditions.proofs.BarriersOfCuts.{any_append}
-use Rattle.ac_conditions.proofs.ConditionsInOrder.{Stand, sites_join, read_stands, expr_stands, index_stands, cond_stands, test_stands}
-use Rattle.ac_conditions.proofs.PairsInOrder.{targets_at, targets_join}
+use Rattle.ac_conditions.proofs.ConditionsInOrder.{Stand, sites_join, read_stands, expr_stands, index_stands, test_stands}
+use Rattle.ac_conditions.proofs.PairsInOrder.{targets_at}
 use Rattle.ac_conditions.proofs.Sublists.{IsSublist, late, listed, AreApart, AreRisingFrom, rising_apart}
 use Rattle.ac_conditions.proofs.TargetsCover.{same_number}
-use Rattle.ac_conditions.specs.Marked.{IsMarked, ExprMarked, IndexMarked, CondMarked, StmtMarked, BlockMarked, ListMarked, AreMarked, needed_nodes}
+use Rattle.ac_conditions.specs.Marked.{ExprMarked, IndexMarked, CondMarked, StmtMarked, BlockMarked, ListMarked, AreMarked, needed_nodes}
 use Rattle.ac_conditions.specs.Opened.{hidden, expr_shape, expr_child, cond_shape, cond_child}
 use Rattle.ac_conditions.specs.Preconditions.{element_write, role_use}
 use Rattle.ac_conditions.specs.Targets.{site_targets}

@@ -10,7 +10,7 @@ use Rattle.ac_tree.specs.Preorder.{numbers_from}
 use Rattle.ac_flow.specs.Listed.{IsListed}
 use Rattle.ac_flow.specs.Pairs.{each}
 use Rattle.ac_conditions.proofs.Parts.{split, from_each}
-use Rattle.ac_conditions.proofs.Sublists.{IsSublist, skip, late, joined, same, mapped, AreApart, apart_append, AreRisingFrom, rising_apart}
+use Rattle.ac_conditions.proofs.Sublists.{IsSublist, late, joined, same, AreApart, apart_append, AreRisingFrom, rising_apart}
 
 abbrev pub targets_at : List NodeId → List Target
 targets_at [] = []

@@ -10,5 +10,6 @@ pub mod Targets
 pub mod AllConditions
 pub mod Marked
 pub mod Statements
+pub mod KindsFit
 pub mod Weights
 pub mod Examples

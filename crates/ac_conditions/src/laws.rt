@@ -1,5 +1,5 @@
 //! Laws of the definitions. They do nothing when they run: what they ensure is the law.
-ghost use Rattle.std.specs.Prelude.{◌≡◌, ◌↔◌, ℕ, ◌+◌, ◌≤◌, max, Contains, List, Option, is_some, map, true};
+ghost use Rattle.std.specs.Prelude.{◌≡◌, ◌↔◌, ℕ, ◌+◌, ◌≤◌, max, Contains, List, [], Option, is_some, map, true};
 ghost use Rattle.ac_tree.specs.declared.node.NodeId.{NodeId};
 ghost use Rattle.ac_tree.specs.declared.path.Cut.{Cut};
 ghost use Rattle.ac_tree.specs.declared.path.Place.{Place};
@@ -13,6 +13,11 @@ ghost use Rattle.ac_flow.specs.Cuts.{cuts_of, has_barrier, has_place};
 ghost use Rattle.ac_flow.specs.Listed.{IsListed};
 ghost use Rattle.ac_flow.specs.Pairs.{is_subject, pairs_of};
 ghost use Rattle.ac_logic.specs.declared.condition.Annotation.{Annotation};
+ghost use Rattle.ac_logic.specs.declared.condition.Condition.{Condition};
+ghost use Rattle.ac_logic.specs.declared.label.Label.{Label};
+ghost use Rattle.ac_logic.specs.Labels.{labels_of};
+ghost use Rattle.ac_policy.specs.Laws.{LawForm};
+ghost use Rattle.ac_conditions.specs.KindsFit.{KindFits};
 ghost use Rattle.ac_logic.specs.declared.formula.Change.{Change as AnyChange};
 ghost use Rattle.ac_logic.specs.declared.formula.Formula.{Formula as AnyFormula};
 ghost use Rattle.ac_logic.specs.declared.formula.Sym.{Sym};
@@ -76,4 +81,10 @@ pub fn needs_give_subjects()
 /// those made of the places of the annotations, and the subject nodes those of the sites at which the policy needs something.
 pub fn annotated_conditions_stand_in_order()
     ensures { (program : Program) (policy : PolicyName) (need : Site → Option AnyFormula) (effect : Site → List AnyChange) (known : NameBytes → Option AnyFormula) (annotations : List Annotation) → IsNumbered program → AreBehindStatements program (places_of annotations) → map (λ x. x.pair) (all_conditions program policy need effect known annotations) ≡ pairs_of program (cuts_of (has_place (places_of annotations)) program) (needed_nodes need (sites_of program)) }
+{}
+
+/// The law that each label of a condition stands at a node that fits its kind, where the formulas of the policy have the form that
+/// its laws ask and the annotations have no label.
+pub fn labels_fit_their_kinds()
+    ensures { (program : Program) (policy : PolicyName) (need : Site → Option AnyFormula) (effect : Site → List AnyChange) (known : NameBytes → Option AnyFormula) (annotations : List Annotation) → LawForm need effect known → ((a : Annotation) → IsListed annotations a → labels_of a.formula ≡ []) → (c : Condition) → IsListed (all_conditions program policy need effect known annotations) c → (l : Label) → IsListed (labels_of c.formula) l → KindFits program l }
 {}
