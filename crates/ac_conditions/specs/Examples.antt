@@ -13,7 +13,7 @@ use Rattle.ac_logic.specs.declared.formula.Formula.{Formula, True, Le, Eq}
 use Rattle.ac_logic.specs.declared.formula.Sym.TheVariants.{Value, Init}
 use Rattle.ac_logic.specs.declared.formula.Term.{Term, Num, Bound}
 use Rattle.ac_logic.specs.declared.label.LabelKind.TheVariants as label
-use Rattle.ac_logic.specs.Patterns.{Scalar, Array, ReadOf, Conjunction, Implication, Every}
+use Rattle.ac_logic.specs.Patterns.{Scalar, Array, ReadOf, PutOf, Sum, Difference, Conjunction, Disjunction, Implication, Every}
 use Rattle.ac_policy.specs.AnyPolicy.{need_at, effect_at, known_at}
 use Rattle.ac_policy.specs.declared.any_policy.AnyPolicy.TheVariants as policy
 use Rattle.ac_policy.specs.Extents.{index_within}
@@ -66,6 +66,38 @@ keep_condition = record {
   policy = name.Init;
   pair = pair (Head (id 4)) (Keep (id 4));
   formula = Implication (labelled label.Header (id 4) (Conjunction (Le (num 0) i) known_i)) (Implication (labelled label.Test (id 4) (Le i (num 9))) (labelled label.Set (id 7) (labelled label.Keep (id 4) True)));
+}
+
+-- @exit 4 { { 9 + 1 <= i and { i = 0 or i = 9 + 1 } } and init(i) = 1 } implies @barrier 4 { all _0 { .. } }
+abbrev pub exit_condition : Condition
+unfolding hidden term_shape term_child formula_shape formula_child
+exit_condition = record {
+  policy = name.Init;
+  pair = pair (Exit (id 4)) (Barrier (id 4));
+  formula = Implication (labelled label.Exit (id 4) (Conjunction (Conjunction (Le (Sum (num 9) (num 1)) i) (Disjunction (Eq i (num 0)) (Eq i (Sum (num 9) (num 1))))) known_i)) (labelled label.Barrier (id 4) (all_marked_to (num 9)));
+}
+
+-- With the invariant that what lies below i was written.
+abbrev pub at_loop : Annotation
+unfolding hidden term_shape term_child
+at_loop = record { place = place.Loop (id 4); formula = all_marked_to (Difference i (num 1)) }
+
+abbrev pub invariant_conditions : List Condition
+invariant_conditions = all_conditions filled name.Init (need_at policy.Init filled) (effect_at policy.Init filled) (known_at policy.Init) (at_loop ∷ behind_loop ∷ [])
+
+-- put(init(a), i, 0, 1)[_0] = 1
+abbrev pub marked_by_write : Formula
+unfolding hidden term_shape term_child array_shape array_child
+marked_by_write = Eq (ReadOf (PutOf (Array (Init (codes "a"))) i (num 0) (num 1)) (Bound 0) (num 0)) (num 1)
+
+-- @header 4 { 0 <= i and init(i) = 1 } implies (@invariant 4 { all _0 { .. _0 <= i - 1 .. } } implies
+-- (@test 4 { i <= 9 } implies @set 7 { @keep 4 { all _0 { { 0 <= _0 and _0 <= i + 1 - 1 } implies put(init(a), i, 0, 1)[_0] = 1 } } }))
+abbrev pub kept_invariant : Condition
+unfolding hidden term_shape term_child formula_shape formula_child
+kept_invariant = record {
+  policy = name.Init;
+  pair = pair (Head (id 4)) (Keep (id 4));
+  formula = Implication (labelled label.Header (id 4) (Conjunction (Le (num 0) i) known_i)) (Implication (labelled label.Invariant (id 4) (all_marked_to (Difference i (num 1)))) (Implication (labelled label.Test (id 4) (Le i (num 9))) (labelled label.Set (id 7) (labelled label.Keep (id 4) (Every (Implication (Conjunction (Le (num 0) (Bound 0)) (Le (Bound 0) (Difference (Sum i (num 1)) (num 1)))) marked_by_write))))));
 }
 
 -- Under bounds the write and the read of an element are subject.

@@ -13,3 +13,4 @@ pub mod Statements
 pub mod KindsFit
 pub mod Weights
 pub mod Examples
+pub mod SearchExample

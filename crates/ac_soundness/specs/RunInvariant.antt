@@ -79,7 +79,7 @@ module _ (p : Program) (start : Start) (part : Part) (shadow : List Event → Sh
     pub valid : (t : Target) → RestValid p part hypotheses t frames
     -- first: the trace has no bad event
     pub clean : IsClean Bad [] c.trace
-    -- third and fifth: the hypotheses of the last cut hold, and the facts of each `for` under way
+    -- third and fifth: the ranges, and the facts of each `for` around the last cut and under way, hold
     pub facts : LoopFacts p part base hypotheses (state p start c.memory (shadow c.trace)) frames
     -- fourth: for each target the path formula from the present point holds
     pub paths : (t : Target) → HoldsIf (state p start c.memory (shadow c.trace)) (path_formula p part t frames)
