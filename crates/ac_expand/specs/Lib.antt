@@ -1,0 +1,6 @@
+pub mod Opened
+pub mod Index
+pub mod Instances
+pub mod Ground
+pub mod Digest
+pub mod Keys
