@@ -1,5 +1,5 @@
 //! What a line asks for.
-use crate::{differences, flow, formulas, linear, programs, proof_trees, runs};
+use crate::{differences, flow, formulas, ground_forms, linear, programs, proof_trees, runs};
 use serde_json::{Value, json};
 use std::alloc::{AllocError, Global};
 
@@ -35,6 +35,7 @@ fn answer_of(alloc: Global, ask: &Value) -> Answer {
         "normal" => linear::normal(alloc, ask),
         "combine" => linear::combine(alloc, ask),
         "solve" => differences::solve(alloc, ask),
+        "expand" => ground_forms::expand(alloc, ask),
         "check_proof" => proof_trees::check_proof(alloc, ask),
         "parse" => programs::parse(alloc, ask),
         "check_static" => programs::check_static(alloc, ask),

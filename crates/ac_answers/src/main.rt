@@ -7,6 +7,7 @@ mod ask;
 mod differences;
 mod flow;
 mod formulas;
+mod ground_forms;
 mod height;
 mod linear;
 mod programs;

@@ -1,2 +1,5 @@
 pub mod Lists
 pub mod Counts
+pub mod Follows
+pub mod Terms
+pub mod Instances

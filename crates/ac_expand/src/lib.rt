@@ -13,9 +13,11 @@ mod digest;
 mod expansion;
 mod index;
 mod key;
+mod laws;
 mod names;
 mod renewal;
 mod walk;
 
 pub use answer::{ExpandFault, Ground};
 pub use expansion::expand;
+pub use laws::instance_law;
