@@ -1,13 +1,13 @@
 -- One more instance is made.
-use Rattle.std.proofs.Common.{◌≡◌, ℕ, ◌+◌, ◌<◌, List, [], ◌∷◌, drop, length, get_or, Option, Some, None, refl, sym, ◌∙◌, ap}
+use Rattle.std.proofs.Common.{◌≡◌, ℕ, ◌+◌, ◌<◌, List, [], ◌∷◌, drop, length, get_or, Option, Some, None, true, false, sym, ◌∙◌, ap}
 use Rattle.std.specs.Prelude.{MatchOption}
 use Rattle.std.proofs.lemmas.List.{drop_more}
 use Rattle.ac_logic.specs.declared.formula.Term.{Term}
 use Rattle.ac_logic.specs.declared.formula.Formula.{Formula}
 use Rattle.ac_logic.specs.Patterns.{Conjunction}
 use Rattle.ac_expand.specs.declared.names.Names.{Names}
-use Rattle.ac_expand.specs.Ground.{Made, each, joined, joined_to}
-use Rattle.ac_expand.specs.Walked.{joined_behind}
+use Rattle.ac_expand.specs.Ground.{Made, each, joined, joined_to, made}
+use Rattle.ac_expand.specs.Walked.{instance_at, joined_behind}
 use Rattle.ac_expand.specs.Opened.{hidden, formula_shape, formula_child}
 
 -- the rest at an index is the term there and the rest behind it
@@ -25,3 +25,10 @@ formula_next make ts i x before f g n m h e p q j =
 
 pub names_next : (make : Term → Names → Made) (ts : List Term) (i : ℕ) (x : Term) (n m : Names) → i < length ts → x ≡ get_or ts i x → m ≡ (make x n).1 → (each make (drop (i + 1) ts) m).1 ≡ (each make (drop i ts) n).1
 names_next make ts i x n m h e q = sym (ap (λ us. (each make us n).1) (next ts i x h e) ∙ ap (λ k. (each make (drop (i + 1) ts) k).1) (sym q))
+
+-- what is made at a copy of a term, under bound names that are the same
+pub instance_formula : (ts d e : List Term) (b : Formula) (t x : Term) (f : Formula) (n : Names) → d ≡ e → t ≡ x → f ≡ (made ts false true (t ∷ d) b n).0 → f ≡ (instance_at ts e b x n).0
+instance_formula ts d e b t x f n p q h = h ∙ λ z. (made ts false true (q z ∷ p z) b n).0
+
+pub instance_names : (ts d e : List Term) (b : Formula) (t x : Term) (m n : Names) → d ≡ e → t ≡ x → m ≡ (made ts false true (t ∷ d) b n).1 → m ≡ (instance_at ts e b x n).1
+instance_names ts d e b t x m n p q h = h ∙ λ z. (made ts false true (q z ∷ p z) b n).1

@@ -35,4 +35,4 @@ abbrev mutual
 
   pub digest_of_array : ArrayTerm → ℕ
   digest_of_array (Array s) = digest_of_symbol s
-  digest_of_array (PutOf a i j v) = mixed (mixed (mixed (mixed 11 (digest_of_array a)) (digest_of i)) (digest_of j)) (digest_of v)
+  digest_of_array (PutOf a i j v) = mixed (mixed (mixed 11 (digest_of_array a)) (digest_of i)) (digest_of v)

@@ -1,14 +1,18 @@
 -- Terms as keys of a table: equal where they are the same tree.
 -- No promise rests on this file: it says what the code keeps on the way.
-use Rattle.std.specs.Prelude.{◌≡◌, Bool, true, false, refl}
+use Rattle.std.specs.Prelude.{◌≡◌, List, map, Bool, true, false, refl}
 use Rattle.std.specs.Cmp.{IsEquivalence}
 use Rattle.std.specs.Hash as fed
 use Rattle.std.specs.Hash.{Alike}
 use Rattle.std.proofs.Common.{ap, sym, ◌∙◌}
+use Rattle.ac_logic.specs.declared.formula.Term.{Term}
 use Rattle.ac_linear.specs.TermEquality.{term_eq}
 use Rattle.ac_linear.proofs.Equal.{term_same, term_itself}
 use Rattle.ac_expand.specs.declared.key.Key.{Key}
 use Rattle.ac_expand.specs.Digest.{digest_of}
+
+abbrev pub terms_of : List Key → List Term
+terms_of ks = map (λ k. k.term) ks
 
 abbrev pub same_key : Key → Key → Bool
 same_key x y = term_eq x.term y.term

@@ -1,5 +1,5 @@
 -- What a proof needs beside the instances: that each new name is a witness of its `all`.
-use Rattle.std.specs.Prelude.{List, [], ◌∷◌, map, ℤ, Bool, true, false, not, if◌then◌else◌}
+use Rattle.std.specs.Prelude.{List, [], ◌∷◌, map, ℤ, Bool, true, false, not}
 use Rattle.ac_logic.specs.declared.formula.Sym.TheVariants.{Fresh}
 use Rattle.ac_logic.specs.declared.formula.Term.{Term}
 use Rattle.ac_logic.specs.declared.formula.Formula.{Formula, True, False, Le, Eq}
@@ -18,6 +18,11 @@ numbers w e = map (value w []) e
 abbrev pub IsWitness : Valuation → List Term → Formula → Term → Type 0
 IsWitness w e a t = HoldsIn w (numbers w (t ∷ e)) a → HoldsIn w (numbers w e) (Every a)
 
+-- the first fact where the formula is shown, the second one elsewhere
+abbrev pub WhereShown : Bool → Type 0 → Type 0 → Type 0
+WhereShown true A B = A
+WhereShown false A B = B
+
 -- a fact of each term and of the next names at its turn
 abbrev pub AtEach : (Term → Names → Type 0) → (Term → Names → Made) → List Term → Names → Type 0
 AtEach P make [] n = Unit {0}
@@ -34,7 +39,7 @@ AreWitnesses w ts shown inside e (Negation f) n = AreWitnesses w ts (not shown) 
 AreWitnesses w ts shown inside e (Conjunction f g) n = AreWitnesses w ts shown inside e f n × AreWitnesses w ts shown inside e g (made ts shown inside e f n).1
 AreWitnesses w ts shown inside e (Disjunction f g) n = AreWitnesses w ts shown inside e f n × AreWitnesses w ts shown inside e g (made ts shown inside e f n).1
 AreWitnesses w ts shown inside e (Implication f g) n = AreWitnesses w ts (not shown) inside e f n × AreWitnesses w ts shown inside e g (made ts (not shown) inside e f n).1
-AreWitnesses w ts shown inside e (Every f) n = if shown then (IsWitness w e f (Scalar (Fresh (next_name inside n))) × AreWitnesses w ts true inside (Scalar (Fresh (next_name inside n)) ∷ e) f (named inside n)) else AtEach (λ t. AreWitnesses w ts false true (t ∷ e) f) (λ t. made ts false true (t ∷ e) f) ts n
+AreWitnesses w ts shown inside e (Every f) n = WhereShown shown (IsWitness w e f (Scalar (Fresh (next_name inside n))) × AreWitnesses w ts true inside (Scalar (Fresh (next_name inside n)) ∷ e) f (named inside n)) (AtEach (λ t. AreWitnesses w ts false true (t ∷ e) f) (λ t. made ts false true (t ∷ e) f) ts n)
 AreWitnesses w ts shown inside e (Labelled l f) n = AreWitnesses w ts shown inside e f n
 
 -- the same of the new names of a whole formula

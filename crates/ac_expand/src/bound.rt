@@ -23,18 +23,18 @@ pub(crate) fn term_with(
         Term::Sym(_) => Ok(None),
         Term::Bound(k) => bound_name(*k, bound),
         Term::Read(a, i, j) => {
-            let array = array_with(alloc, a.get(), bound)?;
-            let first = term_with(alloc, i.get(), bound)?;
-            let second = term_with(alloc, j.get(), bound)?;
+            let b = array_with(alloc, a.get(), bound)?;
+            let k = term_with(alloc, i.get(), bound)?;
+            let l = term_with(alloc, j.get(), bound)?;
             renew_read(
                 alloc,
                 a,
                 i,
                 j,
                 NewRead {
-                    array,
-                    first,
-                    second,
+                    array: b,
+                    first: k,
+                    second: l,
                 },
             )
         }
@@ -71,10 +71,10 @@ fn array_with(
     match array {
         ArrayTerm::Sym(_) => Ok(None),
         ArrayTerm::Put(a, i, j, v) => {
-            let array = array_with(alloc, a.get(), bound)?;
-            let first = term_with(alloc, i.get(), bound)?;
-            let second = term_with(alloc, j.get(), bound)?;
-            let value = term_with(alloc, v.get(), bound)?;
+            let b = array_with(alloc, a.get(), bound)?;
+            let k = term_with(alloc, i.get(), bound)?;
+            let l = term_with(alloc, j.get(), bound)?;
+            let u = term_with(alloc, v.get(), bound)?;
             renew_put(
                 alloc,
                 a,
@@ -82,10 +82,10 @@ fn array_with(
                 j,
                 v,
                 NewPut {
-                    array,
-                    first,
-                    second,
-                    value,
+                    array: b,
+                    first: k,
+                    second: l,
+                    value: u,
                 },
             )
         }
@@ -98,11 +98,9 @@ fn bound_name(k: u32, bound: &[Shared<Term>]) -> Result<Option<Shared<Term>>, Al
     ensures { IfOk result (λ new. renewed (Bound k) new ≡ get_or (reverse bound.now) k (Bound k)) }
 {
     let place = k as usize;
-    if place >= bound.len() {
+    if bound.len() <= place {
         return Ok(None);
     }
-    match bound.get(bound.len() - 1 - place) {
-        Some(term) => Ok(Some(term.share()?)),
-        None => Ok(None),
-    }
+    let term = bound[bound.len() - 1 - place].share()?;
+    Ok(Some(term))
 }

@@ -56,7 +56,7 @@ pub(crate) fn count(formula: &Formula, index: u64, shown: bool) -> u64
 }
 
 fn plus(left: u64, right: u64) -> u64
-    ensures { (m n : ℕ) → left ≡ saturated m → right ≡ saturated n → result ≡ saturated (m + n) }
+    ensures { result ≡ saturated (left + right) }
 {
     left.saturating_add(right)
 }

@@ -54,10 +54,9 @@ fn array_digest(array: &ArrayTerm) -> u64
 {
     match array {
         ArrayTerm::Sym(symbol) => symbol_digest(symbol),
-        ArrayTerm::Put(a, i, j, v) => {
+        ArrayTerm::Put(a, i, _, v) => {
             let array = mixed(11, array_digest(a.get()));
-            let indexes = mixed(mixed(array, digest(i.get())), digest(j.get()));
-            mixed(indexes, digest(v.get()))
+            mixed(mixed(array, digest(i.get())), digest(v.get()))
         }
     }
 }

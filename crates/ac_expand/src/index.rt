@@ -1,6 +1,7 @@
 //! The index terms of a formula.
-ghost use Rattle.std.specs.Prelude.{◌≡◌, ◌++◌, ◌&&◌, reverse, IfOk, OnOk};
-ghost use Rattle.ac_expand.specs.Index.{first_names, index, index_terms, indexes, indexes_in, indexes_in_array, is_ground, is_ground_array, once, shown_count};
+ghost use Rattle.std.specs.Prelude.{◌≡◌, ◌++◌, ◌∷◌, [], if◌then◌else◌, reverse, IfOk, OnOk};
+ghost use Rattle.ac_expand.specs.Index.{first_names, index, indexes, indexes_in, indexes_in_array, is_ground, is_ground_array, once, with_term};
+ghost use Rattle.ac_expand.specs.Keys.{terms_of};
 
 use crate::key::Key;
 use ac_logic::{ArrayTerm, Formula, Sym, Term};
@@ -12,6 +13,7 @@ use std::alloc::{AllocError, Global};
 /// The terms at which an assumed `all` is opened, where so many `all` are shown outside every assumed one.
 ///
 /// The time is linear in the size of the formula and in the sizes of its indexes.
+#[tactic(auto, using(crate::proofs::Terms::one_name_more))]
 pub(crate) fn index_terms(
     alloc: Global,
     formula: &Formula,
@@ -20,7 +22,7 @@ pub(crate) fn index_terms(
     ensures { IfOk result (λ terms. terms ≡ once (indexes formula.now) ++ first_names shown) }
 {
     let mut found = Items::new(alloc);
-    add_formula(alloc, formula, &mut found)?;
+    add_formula(formula, &mut found)?;
     let mut terms = distinct(alloc, found)?;
     for number in 0..shown {
         terms.push(Shared::new(alloc, Term::Sym(Sym::Fresh(number)))?)?;
@@ -29,6 +31,7 @@ pub(crate) fn index_terms(
 }
 
 /// Each term once, where it stands last in the list, the last first.
+#[tactic(auto, using(crate::proofs::Terms::taken))]
 fn distinct(
     alloc: Global,
     mut found: Items<Shared<Term>>,
@@ -38,19 +41,42 @@ fn distinct(
     let mut seen = IndexSet::new(alloc);
     let mut terms = Items::new(alloc);
     while let Some(term) = found.pop() {
-        let key = Key {
-            term: term.share()?,
-        };
-        if seen.insert(key)? {
-            terms.push(term)?;
-        }
+        add_new(&mut seen, &mut terms, term)?;
     }
     Ok(terms)
 }
 
+/// Adds a term to the list, and to the table of its terms, where it is none of them.
+fn add_new(
+    seen: &mut IndexSet<Key>,
+    terms: &mut Items<Shared<Term>>,
+    term: Shared<Term>,
+) -> Result<(), AllocError>
+    ensures table { terms.old ≡ terms_of seen.old.keys → OnOk result (terms.new ≡ terms_of seen.new.keys) }
+    ensures added { terms.old ≡ terms_of seen.old.keys → OnOk result (terms.new ≡ with_term terms.old term) }
+{
+    let copy = term.share()?;
+    let new = seen.insert(Key { term: copy })?;
+    push_if(new, terms, term)?;
+    Ok(())
+}
+
+fn push_if(
+    new: bool,
+    terms: &mut Items<Shared<Term>>,
+    term: Shared<Term>,
+) -> Result<(), AllocError>
+    ensures { OnOk result (terms.new ≡ (if new then terms.old ++ term ∷ [] else terms.old)) }
+{
+    if new {
+        terms.push(term)?;
+    }
+    Ok(())
+}
+
 /// Adds the indexes of a formula, the last first, so that the list in reverse has them in preorder.
+#[tactic(auto, using(crate::proofs::Lists::in_front), unfolding(crate::specs::Opened::formula_shape, crate::specs::Opened::formula_child, crate::specs::Opened::term_shape, crate::specs::Opened::term_child, crate::specs::Opened::array_shape, crate::specs::Opened::array_child, crate::specs::Opened::hidden))]
 fn add_formula(
-    alloc: Global,
     formula: &Formula,
     found: &mut Items<Shared<Term>>,
 ) -> Result<(), AllocError>
@@ -61,24 +87,25 @@ fn add_formula(
         Formula::False => Ok(()),
         Formula::Le(s, t) => add_sides(s, t, found),
         Formula::Eq(s, t) => add_sides(s, t, found),
-        Formula::Not(f) => add_formula(alloc, f.get(), found),
+        Formula::Not(f) => add_formula(f.get(), found),
         Formula::And(f, g) => {
-            add_formula(alloc, g.get(), found)?;
-            add_formula(alloc, f.get(), found)
+            add_formula(g.get(), found)?;
+            add_formula(f.get(), found)
         }
         Formula::Or(f, g) => {
-            add_formula(alloc, g.get(), found)?;
-            add_formula(alloc, f.get(), found)
+            add_formula(g.get(), found)?;
+            add_formula(f.get(), found)
         }
         Formula::Implies(f, g) => {
-            add_formula(alloc, g.get(), found)?;
-            add_formula(alloc, f.get(), found)
+            add_formula(g.get(), found)?;
+            add_formula(f.get(), found)
         }
-        Formula::All(f) => add_formula(alloc, f.get(), found),
-        Formula::Lab(_, f) => add_formula(alloc, f.get(), found),
+        Formula::All(f) => add_formula(f.get(), found),
+        Formula::Lab(_, f) => add_formula(f.get(), found),
     }
 }
 
+#[tactic(auto, using(crate::proofs::Lists::in_front), unfolding(crate::specs::Opened::formula_shape, crate::specs::Opened::formula_child, crate::specs::Opened::term_shape, crate::specs::Opened::term_child, crate::specs::Opened::array_shape, crate::specs::Opened::array_child, crate::specs::Opened::hidden))]
 fn add_sides(
     left: &Shared<Term>,
     right: &Shared<Term>,
@@ -93,6 +120,7 @@ fn add_sides(
 
 /// Adds the indexes of a term, the last first. The answer says whether no bound name stands in the term.
 #[cycle(add_term)]
+#[tactic(auto, using(crate::proofs::Lists::in_front), unfolding(crate::specs::Opened::formula_shape, crate::specs::Opened::formula_child, crate::specs::Opened::term_shape, crate::specs::Opened::term_child, crate::specs::Opened::array_shape, crate::specs::Opened::array_child, crate::specs::Opened::hidden))]
 fn add_term(term: &Term, found: &mut Items<Shared<Term>>) -> Result<bool, AllocError>
     ensures ground { IfOk result (λ ground. ground ≡ is_ground term.now) }
     ensures found { OnOk result (reverse found.new ≡ indexes_in term.now ++ reverse found.old) }
@@ -107,28 +135,27 @@ fn add_term(term: &Term, found: &mut Items<Shared<Term>>) -> Result<bool, AllocE
             let array = add_array(a.get(), found)?;
             Ok(array && first && second)
         }
-        Term::Add(s, t) => add_both(s, t, found),
-        Term::Sub(s, t) => add_both(s, t, found),
-        Term::Mul(s, t) => add_both(s, t, found),
+        Term::Add(s, t) => {
+            let second = add_term(t.get(), found)?;
+            let first = add_term(s.get(), found)?;
+            Ok(first && second)
+        }
+        Term::Sub(s, t) => {
+            let second = add_term(t.get(), found)?;
+            let first = add_term(s.get(), found)?;
+            Ok(first && second)
+        }
+        Term::Mul(s, t) => {
+            let second = add_term(t.get(), found)?;
+            let first = add_term(s.get(), found)?;
+            Ok(first && second)
+        }
         Term::Neg(t) => add_term(t.get(), found),
     }
 }
 
 #[cycle(add_term)]
-fn add_both(
-    left: &Shared<Term>,
-    right: &Shared<Term>,
-    found: &mut Items<Shared<Term>>,
-) -> Result<bool, AllocError>
-    ensures ground { IfOk result (λ ground. ground ≡ (is_ground left.now && is_ground right.now)) }
-    ensures found { OnOk result (reverse found.new ≡ (indexes_in left.now ++ indexes_in right.now) ++ reverse found.old) }
-{
-    let second = add_term(right.get(), found)?;
-    let first = add_term(left.get(), found)?;
-    Ok(first && second)
-}
-
-#[cycle(add_term)]
+#[tactic(auto, using(crate::proofs::Lists::in_front), unfolding(crate::specs::Opened::formula_shape, crate::specs::Opened::formula_child, crate::specs::Opened::term_shape, crate::specs::Opened::term_child, crate::specs::Opened::array_shape, crate::specs::Opened::array_child, crate::specs::Opened::hidden))]
 fn add_array(array: &ArrayTerm, found: &mut Items<Shared<Term>>) -> Result<bool, AllocError>
     ensures ground { IfOk result (λ ground. ground ≡ is_ground_array array.now) }
     ensures found { OnOk result (reverse found.new ≡ indexes_in_array array.now ++ reverse found.old) }
@@ -147,6 +174,7 @@ fn add_array(array: &ArrayTerm, found: &mut Items<Shared<Term>>) -> Result<bool,
 
 /// Adds what stands in an index, and then the index itself, where no bound name stands in it.
 #[cycle(add_term)]
+#[tactic(auto, using(crate::proofs::Lists::pushed))]
 fn add_index(place: &Shared<Term>, found: &mut Items<Shared<Term>>) -> Result<bool, AllocError>
     ensures ground { IfOk result (λ ground. ground ≡ is_ground place.now) }
     ensures found { OnOk result (reverse found.new ≡ (index place.now ++ indexes_in place.now) ++ reverse found.old) }

@@ -132,8 +132,10 @@ fn opened_at_each(
     };
     let mut all = None;
     for term in index {
-        let instance = opened_at(alloc, body, index, at, term.share()?, walk)?;
-        all = Some(joined(alloc, all, instance)?);
+        let copy = term.share()?;
+        let instance = opened_at(alloc, body, index, at, copy, walk)?;
+        let next = joined(alloc, all, instance)?;
+        all = Some(next);
     }
     match all {
         Some(all) => Ok(all),

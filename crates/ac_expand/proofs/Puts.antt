@@ -1,0 +1,25 @@
+-- Single steps at a read and a put, whose children are too many for a search.
+use Rattle.std.proofs.Common.{◌≡◌, ◌∙◌, List, Option}
+use Rattle.ac_logic.specs.declared.formula.Term.{Term}
+use Rattle.ac_logic.specs.declared.formula.ArrayTerm.{ArrayTerm}
+use Rattle.ac_logic.specs.Patterns.{PutOf, ReadOf}
+use Rattle.ac_logic.specs.Answer.{renewed}
+use Rattle.ac_expand.specs.Ground.{with_terms, array_with_terms}
+use Rattle.ac_expand.specs.Opened.{hidden, term_shape, term_child, array_shape, array_child}
+
+pub put_with : (e : List Term) (t a a2 : ArrayTerm) (i i2 j j2 v v2 : Term) (b : Option ArrayTerm) (k l u : Option Term) (new : Option ArrayTerm) → t ≡ PutOf a i j v → a2 ≡ a → i2 ≡ i → j2 ≡ j → v2 ≡ v → renewed a2 b ≡ array_with_terms e a2 → renewed i2 k ≡ with_terms e i2 → renewed j2 l ≡ with_terms e j2 → renewed v2 u ≡ with_terms e v2 → renewed (PutOf a i j v) new ≡ PutOf (renewed a b) (renewed i k) (renewed j l) (renewed v u) → renewed t new ≡ array_with_terms e t
+unfolding hidden term_shape term_child array_shape array_child
+put_with e t a a2 i i2 j j2 v v2 b k l u new is p q r s pa qi rj sv h =
+    let x1 : renewed a b ≡ array_with_terms e a = rw p at pa in
+    let x2 : renewed i k ≡ with_terms e i = rw q at qi in
+    let x3 : renewed j l ≡ with_terms e j = rw r at rj in
+    let x4 : renewed v u ≡ with_terms e v = rw s at sv in
+    rw is (h ∙ λ m. PutOf (x1 m) (x2 m) (x3 m) (x4 m))
+
+pub read_with : (e : List Term) (t : Term) (a a2 : ArrayTerm) (i i2 j j2 : Term) (b : Option ArrayTerm) (k l : Option Term) (new : Option Term) → t ≡ ReadOf a i j → a2 ≡ a → i2 ≡ i → j2 ≡ j → renewed a2 b ≡ array_with_terms e a2 → renewed i2 k ≡ with_terms e i2 → renewed j2 l ≡ with_terms e j2 → renewed (ReadOf a i j) new ≡ ReadOf (renewed a b) (renewed i k) (renewed j l) → renewed t new ≡ with_terms e t
+unfolding hidden term_shape term_child array_shape array_child
+read_with e t a a2 i i2 j j2 b k l new is p q r pa qi rj h =
+    let x1 : renewed a b ≡ array_with_terms e a = rw p at pa in
+    let x2 : renewed i k ≡ with_terms e i = rw q at qi in
+    let x3 : renewed j l ≡ with_terms e j = rw r at rj in
+    rw is (h ∙ λ m. ReadOf (x1 m) (x2 m) (x3 m))
