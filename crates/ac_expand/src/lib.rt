@@ -10,6 +10,7 @@ mod answer;
 mod bound;
 mod count;
 mod digest;
+pub mod examples;
 mod expansion;
 mod index;
 mod key;
