@@ -11,7 +11,7 @@ use crate::count::{count, shown_all};
 use crate::answer::{ExpandFault, Ground};
 use crate::index::index_terms;
 use crate::names::Names;
-use crate::walk::{Place, Walk, ground};
+use crate::walk::{Place, Walk, expanded};
 use crate::renewal::renew;
 use ac_logic::{Condition, Formula, Term};
 use ac_shared::Shared;
@@ -68,7 +68,7 @@ fn ground_form(
         shown: true,
         inside: false,
     };
-    let new = ground(alloc, formula.get(), index, at, &mut walk)?;
+    let new = expanded(alloc, formula.get(), index, at, &mut walk)?;
     drop(walk);
     renew(formula, new)
 }

@@ -122,7 +122,7 @@ fn add_sides(
 #[cycle(add_term)]
 #[tactic(auto, using(crate::proofs::Lists::in_front), unfolding(crate::specs::Opened::formula_shape, crate::specs::Opened::formula_child, crate::specs::Opened::term_shape, crate::specs::Opened::term_child, crate::specs::Opened::array_shape, crate::specs::Opened::array_child, crate::specs::Opened::hidden))]
 fn add_term(term: &Term, found: &mut Items<Shared<Term>>) -> Result<bool, AllocError>
-    ensures ground { IfOk result (λ ground. ground ≡ is_ground term.now) }
+    ensures closed { IfOk result (λ closed. closed ≡ is_ground term.now) }
     ensures found { OnOk result (reverse found.new ≡ indexes_in term.now ++ reverse found.old) }
 {
     match term {
@@ -157,7 +157,7 @@ fn add_term(term: &Term, found: &mut Items<Shared<Term>>) -> Result<bool, AllocE
 #[cycle(add_term)]
 #[tactic(auto, using(crate::proofs::Lists::in_front), unfolding(crate::specs::Opened::formula_shape, crate::specs::Opened::formula_child, crate::specs::Opened::term_shape, crate::specs::Opened::term_child, crate::specs::Opened::array_shape, crate::specs::Opened::array_child, crate::specs::Opened::hidden))]
 fn add_array(array: &ArrayTerm, found: &mut Items<Shared<Term>>) -> Result<bool, AllocError>
-    ensures ground { IfOk result (λ ground. ground ≡ is_ground_array array.now) }
+    ensures closed { IfOk result (λ closed. closed ≡ is_ground_array array.now) }
     ensures found { OnOk result (reverse found.new ≡ indexes_in_array array.now ++ reverse found.old) }
 {
     match array {
@@ -176,12 +176,12 @@ fn add_array(array: &ArrayTerm, found: &mut Items<Shared<Term>>) -> Result<bool,
 #[cycle(add_term)]
 #[tactic(auto, using(crate::proofs::Lists::pushed))]
 fn add_index(place: &Shared<Term>, found: &mut Items<Shared<Term>>) -> Result<bool, AllocError>
-    ensures ground { IfOk result (λ ground. ground ≡ is_ground place.now) }
+    ensures closed { IfOk result (λ closed. closed ≡ is_ground place.now) }
     ensures found { OnOk result (reverse found.new ≡ (index place.now ++ indexes_in place.now) ++ reverse found.old) }
 {
-    let ground = add_term(place.get(), found)?;
-    if ground {
+    let closed = add_term(place.get(), found)?;
+    if closed {
         found.push(place.share()?)?;
     }
-    Ok(ground)
+    Ok(closed)
 }

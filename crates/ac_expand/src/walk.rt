@@ -40,8 +40,8 @@ impl Place {
 }
 
 /// The ground form of a formula at a place; none where it is the formula itself.
-#[cycle(ground)]
-pub(crate) fn ground(
+#[cycle(expanded)]
+pub(crate) fn expanded(
     alloc: Global,
     formula: &Formula,
     index: &[Shared<Term>],
@@ -66,34 +66,34 @@ pub(crate) fn ground(
             renew_two(alloc, s, u, t, v, Formula::Eq)
         }
         Formula::Not(f) => {
-            let h = ground(alloc, f.get(), index, at.turned(), walk)?;
+            let h = expanded(alloc, f.get(), index, at.turned(), walk)?;
             renew_one(alloc, h, Formula::Not)
         }
         Formula::And(f, g) => {
-            let h = ground(alloc, f.get(), index, at, walk)?;
-            let i = ground(alloc, g.get(), index, at, walk)?;
+            let h = expanded(alloc, f.get(), index, at, walk)?;
+            let i = expanded(alloc, g.get(), index, at, walk)?;
             renew_two(alloc, f, h, g, i, Formula::And)
         }
         Formula::Or(f, g) => {
-            let h = ground(alloc, f.get(), index, at, walk)?;
-            let i = ground(alloc, g.get(), index, at, walk)?;
+            let h = expanded(alloc, f.get(), index, at, walk)?;
+            let i = expanded(alloc, g.get(), index, at, walk)?;
             renew_two(alloc, f, h, g, i, Formula::Or)
         }
         Formula::Implies(f, g) => {
-            let h = ground(alloc, f.get(), index, at.turned(), walk)?;
-            let i = ground(alloc, g.get(), index, at, walk)?;
+            let h = expanded(alloc, f.get(), index, at.turned(), walk)?;
+            let i = expanded(alloc, g.get(), index, at, walk)?;
             renew_two(alloc, f, h, g, i, Formula::Implies)
         }
         Formula::All(f) => Ok(Some(opened(alloc, f, index, at, walk)?)),
         Formula::Lab(l, f) => {
-            let h = ground(alloc, f.get(), index, at, walk)?;
+            let h = expanded(alloc, f.get(), index, at, walk)?;
             renew_one(alloc, h, |f| Formula::Lab(*l, f))
         }
     }
 }
 
 /// The ground form of an `all` with this body.
-#[cycle(ground)]
+#[cycle(expanded)]
 fn opened(
     alloc: Global,
     body: &Shared<Formula>,
@@ -115,7 +115,7 @@ fn opened(
 }
 
 /// The body at each index term, joined by `and`.
-#[cycle(ground)]
+#[cycle(expanded)]
 fn opened_at_each(
     alloc: Global,
     body: &Shared<Formula>,
@@ -158,7 +158,7 @@ fn joined(
 }
 
 /// The ground form of the body of an `all` at a term.
-#[cycle(ground)]
+#[cycle(expanded)]
 fn opened_at(
     alloc: Global,
     body: &Shared<Formula>,
@@ -172,7 +172,7 @@ fn opened_at(
     ensures back { OnOk result (walk.new.bound ≡ walk.old.bound) }
 {
     walk.bound.push(term)?;
-    let new = ground(alloc, body.get(), index, at, walk)?;
+    let new = expanded(alloc, body.get(), index, at, walk)?;
     drop(walk.bound.pop());
     renew(body, new)
 }

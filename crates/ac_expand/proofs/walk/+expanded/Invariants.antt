@@ -1,7 +1,7 @@
 use Rattle.std.proofs.Common.{◌≡◌, drop, reverse}
 use Rattle.ac_expand.specs.Ground.{each, joined}
 use Rattle.ac_expand.specs.Walked.{instance_at, joined_behind}
-use Rattle.ac_expand.proofs.walk.+ground.Given as goal
+use Rattle.ac_expand.proofs.walk.+expanded.Given as goal
 
 -- what is made already, joined with what is to come
 abbrev pub invariant-opened_at_each-loop-term : goal.invariant-opened_at_each-loop-term

@@ -2,7 +2,7 @@ use Rattle.std.proofs.Common.{◌≡◌, ◌∷◌, ◌∙◌, ap, reverse, true
 use Rattle.ac_expand.specs.Ground.{made}
 use Rattle.ac_expand.specs.Walked.{instance_at}
 use Rattle.ac_expand.proofs.Instances.{formula_next, instance_formula, instance_names, names_next}
-use Rattle.ac_expand.proofs.walk.+ground.Goals as goal
+use Rattle.ac_expand.proofs.walk.+expanded.Goals as goal
 
 pub opened_at_each-loop-term-preserved : goal.opened_at_each-loop-term-preserved
 opened_at_each-loop-term-preserved t c =
