@@ -26,7 +26,7 @@ pub equiv : IsEquivalence same_key
 equiv = record {
   refl = λ x. term_itself x.term;
   symm = λ x y. same_bits _ _ (λ h. ap (λ t. term_eq y.term t) (term_same x.term y.term h) ∙ term_itself y.term) (λ h. ap (λ t. term_eq x.term t) (term_same y.term x.term h) ∙ term_itself x.term);
-  congr = λ x y z h. ap (λ t. term_eq t z.term) (term_same x.term y.term h)
+  congr = λ x y z h. ap (λ t. term_eq t z.term) (term_same x.term y.term h);
 }
 
 pub alike : Alike same_key (λ k. fed.u64 (digest_of k.term))

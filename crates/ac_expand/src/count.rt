@@ -49,7 +49,11 @@ pub(crate) fn count(formula: &Formula, index: u64, shown: bool) -> u64
         }
         Formula::All(f) => {
             let inside = count(f.get(), index, shown);
-            if shown { inside } else { at_each(index, inside) }
+            if shown {
+                inside
+            } else {
+                at_each(index, inside)
+            }
         }
         Formula::Lab(_, f) => count(f.get(), index, shown),
     }

@@ -15,7 +15,9 @@ fn name_digest(digest: u64, name: &Name) -> u64
     ensures { result ≡ digest_of_name digest name.now }
 {
     let bytes = name.text().as_bytes();
-    bytes.iter().fold(digest, |all, byte| mixed(all, u64::from(*byte)))
+    bytes
+        .iter()
+        .fold(digest, |all, byte| mixed(all, u64::from(*byte)))
 }
 
 fn symbol_digest(symbol: &Sym) -> u64

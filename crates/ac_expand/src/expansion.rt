@@ -7,12 +7,12 @@ ghost use Rattle.ac_expand.specs.Ground.{ground_form};
 ghost use Rattle.ac_expand.specs.Index.{index_terms, shown_count};
 ghost use Rattle.ac_expand.specs.Instances.{instances_of};
 
-use crate::count::{count, shown_all};
 use crate::answer::{ExpandFault, Ground};
+use crate::count::{count, shown_all};
 use crate::index::index_terms;
 use crate::names::Names;
-use crate::walk::{Place, Walk, expanded};
 use crate::renewal::renew;
+use crate::walk::{Place, Walk, expanded};
 use ac_logic::{Condition, Formula, Term};
 use ac_shared::Shared;
 use ac_tree::LimitKind;

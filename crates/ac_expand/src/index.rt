@@ -61,11 +61,7 @@ fn add_new(
     Ok(())
 }
 
-fn push_if(
-    new: bool,
-    terms: &mut Items<Shared<Term>>,
-    term: Shared<Term>,
-) -> Result<(), AllocError>
+fn push_if(new: bool, terms: &mut Items<Shared<Term>>, term: Shared<Term>) -> Result<(), AllocError>
     ensures { OnOk result (terms.new ≡ (if new then terms.old ++ term ∷ [] else terms.old)) }
 {
     if new {
@@ -76,10 +72,7 @@ fn push_if(
 
 /// Adds the indexes of a formula, the last first, so that the list in reverse has them in preorder.
 #[tactic(auto, using(crate::proofs::Lists::in_front), unfolding(crate::specs::Opened::formula_shape, crate::specs::Opened::formula_child, crate::specs::Opened::term_shape, crate::specs::Opened::term_child, crate::specs::Opened::array_shape, crate::specs::Opened::array_child, crate::specs::Opened::hidden))]
-fn add_formula(
-    formula: &Formula,
-    found: &mut Items<Shared<Term>>,
-) -> Result<(), AllocError>
+fn add_formula(formula: &Formula, found: &mut Items<Shared<Term>>) -> Result<(), AllocError>
     ensures { OnOk result (reverse found.new ≡ indexes formula.now ++ reverse found.old) }
 {
     match formula {
