@@ -38,7 +38,7 @@ mutual
 
 -- ---- instances joined by `and`
 
-HoldEach : Valuation → List Formula → Type 0
+abbrev HoldEach : Valuation → List Formula → Type 0
 HoldEach w [] = Unit {0}
 HoldEach w (f ∷ fs) = Holds w f × HoldEach w fs
 

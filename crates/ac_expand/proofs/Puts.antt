@@ -1,9 +1,10 @@
 -- Single steps at a read and a put, whose children are too many for a search.
-use Rattle.std.proofs.Common.{◌≡◌, ◌∙◌, List, Option}
+use Rattle.std.proofs.Common.{◌≡◌, ◌∙◌, ℕ, List, Option}
 use Rattle.ac_logic.specs.declared.formula.Term.{Term}
 use Rattle.ac_logic.specs.declared.formula.ArrayTerm.{ArrayTerm}
 use Rattle.ac_logic.specs.Patterns.{PutOf, ReadOf}
 use Rattle.ac_logic.specs.Answer.{renewed}
+use Rattle.ac_expand.specs.Digest.{mixed, digest_of, digest_of_array}
 use Rattle.ac_expand.specs.Ground.{with_terms, array_with_terms}
 use Rattle.ac_expand.specs.Opened.{hidden, term_shape, term_child, array_shape, array_child}
 
@@ -23,3 +24,13 @@ read_with e t a a2 i i2 j j2 b k l new is p q r pa qi rj h =
     let x2 : renewed i k ≡ with_terms e i = rw q at qi in
     let x3 : renewed j l ≡ with_terms e j = rw r at rj in
     rw is (h ∙ λ m. ReadOf (x1 m) (x2 m) (x3 m))
+
+pub put_digest : (t a a2 : ArrayTerm) (i i2 j v v2 : Term) (ra x ri y rv z : ℕ) → t ≡ PutOf a i j v → a2 ≡ a → i2 ≡ i → v2 ≡ v → ra ≡ digest_of_array a2 → x ≡ mixed 11 ra → ri ≡ digest_of i2 → y ≡ mixed x ri → rv ≡ digest_of v2 → z ≡ mixed y rv → z ≡ digest_of_array t
+unfolding hidden term_shape term_child array_shape array_child
+put_digest t a a2 i i2 j v v2 ra x ri y rv z is p q s ha hx hi hy hv hz =
+    let x1 : ra ≡ digest_of_array a = rw p at ha in
+    let x2 : ri ≡ digest_of i = rw q at hi in
+    let x3 : rv ≡ digest_of v = rw s at hv in
+    let y1 : x ≡ mixed 11 (digest_of_array a) = hx ∙ λ m. mixed 11 (x1 m) in
+    let y2 : y ≡ mixed (mixed 11 (digest_of_array a)) (digest_of i) = hy ∙ λ m. mixed (y1 m) (x2 m) in
+    rw is (hz ∙ λ m. mixed (y2 m) (x3 m))

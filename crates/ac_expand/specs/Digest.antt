@@ -9,7 +9,7 @@ use Rattle.ac_logic.specs.Patterns.{Scalar, Array, ReadOf, Sum, Difference, Prod
 use Rattle.std.specs.Int.{cast_unsigned, w64}
 use Rattle.ac_expand.specs.Opened.{hidden, term_shape, term_child, array_shape, array_child}
 
-abbrev pub mixed : ℕ → ℕ → ℕ
+unfoldable pub mixed : ℕ → ℕ → ℕ
 mixed d x = ((d * 31) % 2 ^ 64 + x) % 2 ^ 64
 
 abbrev pub digest_of_name : ℕ → List ℕ → ℕ

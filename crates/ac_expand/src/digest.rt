@@ -5,6 +5,7 @@ ghost use Rattle.ac_expand.specs.Digest.{mixed, digest_of, digest_of_array, dige
 use ac_logic::{ArrayTerm, Sym, Term};
 use ac_tree::Name;
 
+#[tactic(auto, unfolding(crate::specs::Digest::mixed))]
 fn mixed(digest: u64, next: u64) -> u64
     ensures { result ≡ mixed digest next }
 {

@@ -1,4 +1,4 @@
-use Rattle.std.proofs.Common.{[]}
+use Rattle.std.proofs.Common.{[], true, false}
 use Rattle.ac_expand.specs.Index.{index_terms, shown_count}
 use Rattle.ac_expand.proofs.Follows.{assumed_holds, shown_holds}
 use Rattle.ac_expand.proofs.laws.instance_law.Goals as goal
