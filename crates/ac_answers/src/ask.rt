@@ -1,10 +1,10 @@
 //! What a line asks for.
-use crate::{differences, flow, formulas, ground_forms, linear, programs, proof_trees, runs};
+use ac_answers_language::{flow, programs, runs};
+use ac_answers_logic::{differences, formulas, ground_forms, linear, proof_trees};
+use ac_answers_policies::policies;
+use ac_asks::{Answer, text_at};
 use serde_json::{Value, json};
 use std::alloc::{AllocError, Global};
-
-/// The answer to an ask; none where the line is no stated ask.
-pub type Answer = anyhow::Result<Option<Value>>;
 
 /// The answer to a line, `{"bad":true}` where it is no stated ask.
 pub fn answer(alloc: Global, line: &[u8]) -> anyhow::Result<Value> {
@@ -43,25 +43,11 @@ fn answer_of(alloc: Global, ask: &Value) -> Answer {
         "run" => runs::run(alloc, ask),
         "cuts" => flow::cuts(alloc, ask),
         "pairs" => flow::pairs(alloc, ask),
+        "walk" => flow::walk(alloc, ask),
+        "sites" => policies::sites(alloc, ask),
+        "need" => policies::need(alloc, ask),
+        "effect" => policies::effect(alloc, ask),
+        "known" => policies::known(alloc, ask),
         _ => Ok(None),
-    }
-}
-
-/// The text under a key.
-pub fn text_at<'a>(ask: &'a Value, key: &str) -> Option<&'a str> {
-    match ask.get(key) {
-        Some(value) => value.as_str(),
-        None => None,
-    }
-}
-
-/// The list under a key.
-pub fn list_at<'a>(ask: &'a Value, key: &str) -> Option<&'a [Value]> {
-    match ask.get(key) {
-        Some(value) => match value.as_array() {
-            Some(list) => Some(list.as_slice()),
-            None => None,
-        },
-        None => None,
     }
 }

@@ -4,16 +4,6 @@
 #![tactic(auto)]
 
 mod ask;
-mod differences;
-mod flow;
-mod formulas;
-mod ground_forms;
-mod height;
-mod linear;
-mod programs;
-mod proof_trees;
-mod runs;
-mod spans;
 
 use std::io;
 use std::io::{BufRead, BufReader, BufWriter, Write};

@@ -1,11 +1,33 @@
 -- Pieces written one after the other.
-use Rattle.std.proofs.Common.{◌≡◌, List, ℕ, [], ◌++◌, Bool, true, false, append_assoc, refl, sym, ◌∙◌, ap, codes}
+use Rattle.std.proofs.Common.{◌≡◌, List, ℕ, [], ◌++◌, Bool, true, false, append_assoc, refl, sym, ◌∙◌, ap, codes, length, length-append, ◌+◌, ◌≤◌, ◌<◌, arith}
+use Rattle.std.specs.Fmt.{decimal}
 use Rattle.ac_logic.specs.declared.formula.Term.{Term}
 use Rattle.ac_logic.specs.declared.formula.ArrayTerm.{ArrayTerm}
 use Rattle.ac_logic.specs.declared.formula.Formula.{Formula}
 use Rattle.ac_logic.specs.Patterns.{PutOf, ReadOf, Sum, Difference, Product, Conjunction, Disjunction, Implication}
 use Rattle.ac_formula_printer.specs.Printing.{text_of_term, text_of_array, in_parens, when, is_grouped, is_zero, second_index, is_braced, in_braces, text_of_formula}
 use Rattle.ac_formula_printer.specs.Opened.{hidden, formula_shape, formula_child, term_shape, term_child, array_shape, array_child}
+
+-- what is written stays, so a text has no fewer bytes than before
+pub longer : (d : ℕ) (o s p : List ℕ) → s ≡ o ++ p → d ≤ length o → d ≤ length s
+longer d o s p written h = let l = ap length written in let m = length-append o p in omega arith
+
+pub longer_three : (d : ℕ) (o s p q r : List ℕ) → s ≡ o ++ p ++ q ++ r → d ≤ length o → d ≤ length s
+longer_three d o s p q r written h = longer d (o ++ p ++ q) s r written (longer d (o ++ p) _ q refl (longer d o _ p refl h))
+
+pub longer_five : (d : ℕ) (o s p q r t u : List ℕ) → s ≡ o ++ p ++ q ++ r ++ t ++ u → d ≤ length o → d ≤ length s
+longer_five d o s p q r t u written h = longer d (o ++ p ++ q ++ r ++ t) s u written (longer d (o ++ p ++ q ++ r) _ t refl (longer_three d o _ p q r refl h))
+
+-- and more inside an `all`
+pub longer_all : (d n : ℕ) (o s : List ℕ) → s ≡ o ++ codes "all _" ++ decimal n ++ codes " { " → d ≤ length o → d < length s
+longer_all d n o s written h =
+    let head : length (codes "all _") ≡ 5 = refl in
+    let begun : length (o ++ codes "all _") ≡ length o + length (codes "all _") = length-append o (codes "all _") in
+    let five : d + 1 ≤ length (o ++ codes "all _") = omega arith in
+    let all = longer (d + 1) (o ++ codes "all _" ++ decimal n) s (codes " { ") written (longer (d + 1) (o ++ codes "all _") _ (decimal n) refl five) in omega arith
+
+pub longer_deeper : (d e n : ℕ) (o s : List ℕ) → e ≡ d + 1 → s ≡ o ++ codes "all _" ++ decimal n ++ codes " { " → d ≤ length o → e ≤ length s
+longer_deeper d e n o s one written h = let l = longer_all d n o s written h in omega arith
 
 -- an operand, a sign between, an operand
 pub infix_text : (o s1 s2 s3 s4 s5 p x q y r sign u v : List ℕ) → s1 ≡ o ++ p → s2 ≡ s1 ++ x → s3 ≡ s2 ++ q ++ sign ++ u → s4 ≡ s3 ++ y → s5 ≡ s4 ++ v →

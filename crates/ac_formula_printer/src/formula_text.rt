@@ -1,5 +1,5 @@
 //! Writing formulas, and the two calls that print.
-ghost use Rattle.std.specs.Prelude.{◌≡◌, ◌++◌, ◌+◌, ◌<◌, ◌^◌, List, IfOk, OnOk, string_bytes, codes, decimal};
+ghost use Rattle.std.specs.Prelude.{◌≡◌, ◌++◌, ◌+◌, ◌<◌, ◌≤◌, ◌^◌, List, length, IfOk, OnOk, string_bytes, codes, decimal};
 ghost use Rattle.ac_formula_printer.specs.Printing.{is_braced as braced_formula, when, text_of_term, text_of_formula};
 ghost use Rattle.ac_formula_printer.specs.FormulaText.{Formulas, Terms};
 ghost use Rattle.ac_formula_printer.specs.FormulaTokens.{IsText};
@@ -97,8 +97,19 @@ fn write_label(out: &mut String, label: &Label) -> Result<(), AllocError>
     out.push_str(" { ")
 }
 
-/// Writes a formula that stands inside `depth` enclosing `all`.
+/// The number of enclosing `all` of what stands in one more. Each has left bytes in the text that is written, so there are
+/// never too many to count.
+fn one_deeper(out: &String, depth: u64) -> u64
+    requires { depth < length (string_bytes out.now) }
+    ensures { result ≡ depth + 1 }
+{
+    let _written = out.as_str().len();
+    depth + 1
+}
+
+/// Writes a formula that stands inside `depth` enclosing `all`, each of which has left bytes in the text.
 fn write_formula(out: &mut String, depth: u64, formula: &Formula) -> Result<(), AllocError>
+    requires { depth ≤ length (string_bytes out.old) }
     ensures text { OnOk result (string_bytes out.new ≡ string_bytes out.old ++ text_of_formula depth formula.now) }
     ensures in_range { OnOk result (IsInRange depth formula.now) }
 {
@@ -143,8 +154,8 @@ fn write_formula(out: &mut String, depth: u64, formula: &Formula) -> Result<(), 
             Ok(())
         }
         Formula::All(inner) => {
-            let deeper = depth.checked_add(1).ok_or(AllocError)?;
             write_all(out, depth)?;
+            let deeper = one_deeper(out, depth);
             write_formula(out, deeper, inner.get())?;
             out.push_str(" }")?;
             Ok(())

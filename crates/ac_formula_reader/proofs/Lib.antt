@@ -1,9 +1,7 @@
 mod Complete
 mod Sound
 mod Refuse
-mod Denied
 mod Reading
 mod Running
-mod Stepping
 mod Pieces
 mod OneRefusal

@@ -11,20 +11,20 @@ use Rattle.ac_logic.specs.declared.formula.Formula.{Formula, True, False, Le, Eq
 use Rattle.ac_formula_printer.specs.declared.mark.FormulaMark.{FormulaMark}
 use Rattle.ac_formula_printer.specs.declared.mark.FormulaMark.TheVariants as mark
 use Rattle.ac_tree.specs.declared.program.RelOp.{RelOp}
-use Rattle.ac_formula_reader.specs.declared.machine_state.Adding.{Adding}
-use Rattle.ac_formula_reader.specs.declared.machine_state.Adding.TheVariants as adding
-use Rattle.ac_formula_reader.specs.declared.machine_state.Pending.{Pending}
-use Rattle.ac_formula_reader.specs.declared.machine_state.Slot.{Slot}
-use Rattle.ac_formula_reader.specs.declared.machine_state.Slot.TheVariants as slot
-use Rattle.ac_formula_reader.specs.declared.machine_state.Before.{Before}
-use Rattle.ac_formula_reader.specs.declared.machine_state.Frame.{Frame}
-use Rattle.ac_formula_reader.specs.declared.machine_state.Frame.TheVariants as frame
-use Rattle.ac_formula_reader.specs.declared.machine_state.State.{State}
-use Rattle.ac_formula_reader.specs.declared.machine_state.State.TheVariants as state
+use Rattle.ac_formula_machine.specs.declared.machine_state.Adding.{Adding}
+use Rattle.ac_formula_machine.specs.declared.machine_state.Adding.TheVariants as adding
+use Rattle.ac_formula_machine.specs.declared.machine_state.Pending.{Pending}
+use Rattle.ac_formula_machine.specs.declared.machine_state.Slot.{Slot}
+use Rattle.ac_formula_machine.specs.declared.machine_state.Slot.TheVariants as slot
+use Rattle.ac_formula_machine.specs.declared.machine_state.Before.{Before}
+use Rattle.ac_formula_machine.specs.declared.machine_state.Frame.{Frame}
+use Rattle.ac_formula_machine.specs.declared.machine_state.Frame.TheVariants as frame
+use Rattle.ac_formula_machine.specs.declared.machine_state.State.{State}
+use Rattle.ac_formula_machine.specs.declared.machine_state.State.TheVariants as state
 use Rattle.ac_logic.specs.Patterns.{Scalar, Array, ReadOf, Sum, Difference, Product, Negative, PutOf, Negation, Conjunction, Disjunction, Implication, Every, Labelled}
 use Rattle.ac_formula_reader.specs.Opened.{hidden, formula_shape, formula_child, term_shape, term_child, array_shape, array_child}
 use Rattle.ac_formula_printer.specs.FormulaText.{Tokens, Names, place_of, number_of, short_of, label_kind_of, related, TermLevel, Whole, Prod, Fac, Atom, SpellsTerm, SpellsArray, FormulaLevel, Full, Disj, Conj, Neg, Part, SpellsFormula, Goal, Terms, Formulas, Tree, IsTextOf, Continues, NoneGoesOn, IsUnexpected}
-use Rattle.ac_formula_reader.specs.FormulaMachine.{Stack, Machine, if_some, names_of, signed, multiplied, added, pending, fresh, atom_read, number_read, denied, joined, either, before, unbound, part_read, closed, following, in_index, at_paren, at_bracket, at_comma, at_relation, having, term_ends, wanting, at_minus, array_begins, fresh_read, at_open_paren, at_open_brace, init_named, put_begins, put_named, symbol_ends, array_named, array_read, part_begins, all_named, node_named, stepped, term_so_far, ended_term, implied, relation_ended, ended_formula, ended, begun, whole, reads}
+use Rattle.ac_formula_machine.specs.FormulaMachine.{Stack, Machine, if_some, names_of, signed, multiplied, added, pending, fresh, atom_read, number_read, denied, joined, either, before, unbound, part_read, closed, following, in_index, at_paren, at_bracket, at_comma, at_relation, having, term_ends, wanting, at_minus, array_begins, fresh_read, at_open_paren, at_open_brace, init_named, put_begins, put_named, symbol_ends, array_named, array_read, part_begins, all_named, node_named, stepped, term_so_far, ended_term, implied, relation_ended, ended_formula, ended, begun, whole, reads}
 use Rattle.ac_tree.specs.declared.program.RelOp.TheVariants as rel
 use Rattle.ac_formula_reader.proofs.Complete.{complete, right_leads, goes, Settled, SettledMark}
 use Rattle.ac_formula_reader.proofs.Sound.{AroundTerm, AroundDue, AroundFormula, AroundArray, Around, Has, After, step_has, begun_has, IsSpelledBy, sound}

@@ -1,7 +1,7 @@
 -- A reader goes through a text: where it begins, goes on, is stuck and ends.
 use Rattle.std.proofs.Common.{◌≡◌, ℕ, zero, suc, ◌+◌, ◌≤◌, ◌<◌, ◌⊎◌, inl, inr, List, [], ◌∷◌, length, take, drop, ◌-◌, Option, Some, None, Ok, Err, refl, sym, ◌∙◌, ap, subst, arith}
 use Rattle.ac_formula_printer.specs.declared.mark.FormulaMark.{FormulaMark}
-use Rattle.ac_formula_reader.specs.declared.machine_state.State.{State}
+use Rattle.ac_formula_machine.specs.declared.machine_state.State.{State}
 use Rattle.ac_formula_reader.specs.declared.read.Advance.{Advance}
 use Rattle.ac_formula_printer.specs.declared.byte_run.Run.TheVariants as run
 use Rattle.ac_formula_reader.specs.declared.read.FormulaFault.{FormulaFault}
@@ -9,7 +9,7 @@ use Rattle.ac_formula_reader.specs.declared.read.FormulaFault.TheVariants.{At, O
 use Rattle.ac_formula_printer.specs.FormulaText.{Goal, Tree}
 use Rattle.ac_formula_printer.specs.FormulaTokens.{IsRefusedAt, first_token, behind}
 use Rattle.ac_formula_reader.specs.Refusals.{IsFault}
-use Rattle.ac_formula_reader.specs.FormulaMachine.{Stack, stepped, begun, ended}
+use Rattle.ac_formula_machine.specs.FormulaMachine.{Stack, stepped, begun, ended}
 use Rattle.ac_formula_reader.specs.FormulaReached.{IsReached}
 use Rattle.ac_formula_reader.specs.FormulaPieces.{IsRun, Advances, IsRead, IsFaultAt}
 use Rattle.ac_formula_reader.proofs.Reading.{reached_start, reached_more, refused_token, refused_fault, refused_end, accepted_end, refusal_excludes}

@@ -1,6 +1,6 @@
 -- What the functions that cut and read formula text give.
 -- No promise rests on this file: it says what the code keeps on the way.
-use Rattle.std.specs.Prelude.{◌≡◌, ℕ, ◌+◌, ◌≤◌, ◌<◌, List, [], ◌∷◌, ◌++◌, length, take, drop, reverse, Option, Some, None, Result, Ok, Err, ◌⊎◌}
+use Rattle.std.specs.Prelude.{◌≡◌, ℕ, ◌+◌, ◌≤◌, ◌<◌, List, [], ◌∷◌, ◌++◌, length, take, drop, Option, Some, None, Result, Ok, Err, ◌⊎◌}
 use Rattle.ac_tree.specs.declared.token.Sign.{Sign}
 use Rattle.ac_tree.specs.declared.token.ByteKind.{ByteKind}
 use Rattle.ac_tree.specs.declared.token.ByteKind.TheVariants as byte_kind
@@ -9,7 +9,7 @@ use Rattle.ac_formula_printer.specs.declared.mark.FormulaMark.{FormulaMark}
 use Rattle.ac_formula_printer.specs.declared.byte_run.Run.{Run}
 use Rattle.ac_formula_printer.specs.declared.byte_run.Run.TheVariants as run
 use Rattle.ac_formula_reader.specs.declared.tokens.Piece.{Piece}
-use Rattle.ac_formula_reader.specs.declared.machine_state.State.{State}
+use Rattle.ac_formula_machine.specs.declared.machine_state.State.{State}
 use Rattle.ac_formula_reader.specs.declared.read.Advance.{Advance}
 use Rattle.ac_formula_reader.specs.declared.read.Reached.{Reached}
 use Rattle.ac_formula_reader.specs.declared.read.Reached.TheVariants.{Stuck, Through}
@@ -17,7 +17,7 @@ use Rattle.ac_formula_reader.specs.declared.read.FormulaFault.{FormulaFault}
 use Rattle.ac_formula_reader.specs.declared.read.FormulaFault.TheVariants.{At, OutOfMemory}
 use Rattle.ac_formula_printer.specs.FormulaText.{Tokens, Goal, Tree}
 use Rattle.ac_formula_printer.specs.FormulaTokens.{front, behind, first_token, IsText, IsRefusedAt}
-use Rattle.ac_formula_reader.specs.FormulaMachine.{Stack, stepped}
+use Rattle.ac_formula_machine.specs.FormulaMachine.{Stack, stepped}
 use Rattle.ac_formula_reader.specs.FormulaReached.{IsReached}
 
 -- a run takes this many bytes
@@ -53,7 +53,7 @@ Advances k s bytes j (Some a) =
 
 abbrev pub HasRun : Goal → List ℕ → Reached → Type 0
 HasRun g bytes (Stuck place) = IsRefusedAt g bytes place
-HasRun g bytes (Through stack state) = IsReached g bytes (reverse stack.items) state []
+HasRun g bytes (Through stack state) = IsReached g bytes stack state []
 
 abbrev pub IsRead : (g : Goal) → List ℕ → Result (Tree g) ℕ → Type 0
 IsRead g bytes (Ok t) = IsText g t bytes

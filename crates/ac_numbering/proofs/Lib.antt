@@ -1,3 +1,4 @@
 pub mod NumberRules
+pub mod NumberSteps
 pub mod NumberLists
 pub mod NumberedTwice

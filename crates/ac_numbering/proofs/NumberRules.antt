@@ -1,12 +1,13 @@
 -- Counting and numbering nodes, by the constructors that code sees.
-use Rattle.std.proofs.Common.{◌≡◌, ℕ, ◌+◌, List, ◌∷◌, refl, sym, ◌∙◌, ap, ap₂, rules, arith}
+use Rattle.std.proofs.Common.{◌≡◌, ℕ, ◌+◌, min, List, ◌∷◌, refl, sym, ◌∙◌, ap, ap₂, rules, arith}
 use mathlib.Core.Former.{Count}
 use Rattle.ac_tree.specs.declared.program.Cond.{Cond}
-use Rattle.ac_tree.specs.declared.program.CondKind.{the_lemmas as cond_lemmas}
+use Rattle.ac_tree.specs.declared.node.Node.{Node}
+use Rattle.ac_tree.specs.declared.program.CondKind.{CondKind}
 use Rattle.ac_tree.specs.declared.program.CondKind.TheVariants as c
 use Rattle.ac_tree.specs.declared.program.RelOp.{RelOp}
 use Rattle.ac_tree.specs.declared.program.Expr.{Expr}
-use Rattle.ac_tree.specs.declared.program.ExprKind.{the_lemmas as expr_lemmas}
+use Rattle.ac_tree.specs.declared.program.ExprKind.{ExprKind}
 use Rattle.ac_tree.specs.declared.program.ExprKind.TheVariants as e
 use Rattle.ac_tree.specs.declared.program.Index.{Index}
 use Rattle.ac_tree.specs.declared.program.Index.TheVariants as i
@@ -15,8 +16,9 @@ use Rattle.ac_tree.specs.declared.program.StmtKind.{StmtKind, the_lemmas as stmt
 use Rattle.ac_tree.specs.declared.program.StmtKind.TheVariants as s
 use Rattle.ac_tree.specs.Grammar.{NameBytes}
 use Rattle.ac_tree.specs.Numbering.{at, expr_nodes, index_nodes, cond_nodes, stmt_nodes, block_nodes, list_nodes, numbered, numbered_index, numbered_expr, numbered_kind, numbered_cond, numbered_stmt, numbered_block, numbered_list}
-use Rattle.ac_numbering.specs.Numbers.{NumbersExpr, NumbersStmtKind, NumbersBlock}
+use Rattle.ac_numbering.specs.Numbers.{greatest, NumbersExpr, NumbersExprKind, NumbersIndex, NumbersCond, NumbersCondKind, NumbersStmt, NumbersStmtKind, NumbersBlock, whole_stmt}
 use Rattle.ac_numbering.specs.Opened.{hidden, expr_shape, expr_child, cond_shape, cond_child}
+use Rattle.ac_numbering.proofs.NumberSteps.{leaf, one, two, three, same, pair}
 
 pub nodes-Num : (k : ℕ) → expr_nodes (e.Num k) ≡ 1
 unfolding hidden expr_shape expr_child
@@ -194,78 +196,115 @@ numbered-While n t xs = first_of (search (rules, stmt_lemmas, block_nodes-items,
 pub add_three : (a b c x y z : ℕ) → a ≡ x → b ≡ y → c ≡ z → 1 + a + b + c ≡ 1 + x + y + z
 add_three a b c x y z e f g = ap₂ (λ k l. 1 + k + l + c) e f ∙ ap (λ l. 1 + x + y + l) g
 
--- a `for` has too many parts for a search
-pub for-numbered : (k : StmtKind) (x y : NameBytes) (a b a' b' : Expr) (xs ys : List Stmt) (first second third fourth next : ℕ) →
-    k ≡ s.For x a b xs → second ≡ first + 1 → y ≡ x →
-    NumbersExpr second a (a', third) → NumbersExpr third b (b', fourth) → NumbersBlock fourth xs (ys, next) →
-    NumbersStmtKind first k (s.For y a' b' ys, next)
-for-numbered k x y a b a' b' xs ys first second third fourth next h m q ea eb ex =
-    let from_low : third ≡ first + 1 + expr_nodes a.kind = ea.1 ∙ ap (λ i. i + expr_nodes a.kind) m in
-    let from_high : fourth ≡ first + 1 + expr_nodes a.kind + expr_nodes b.kind = eb.1 ∙ ap (λ i. i + expr_nodes b.kind) from_low in
-    let low : a' ≡ numbered_expr (first + 1) a = ea.0 ∙ ap (λ i. numbered_expr i a) m in
-    let high : b' ≡ numbered_expr (first + 1 + expr_nodes a.kind) b = eb.0 ∙ ap (λ i. numbered_expr i b) from_low in
-    let body : ys ≡ numbered_list (first + 1 + expr_nodes a.kind + expr_nodes b.kind) xs = ex.0 ∙ ap (λ i. numbered_list i xs) from_high in
-    let made : s.For y a' b' ys ≡ numbered_stmt first k =
-    ap (λ (w : NameBytes). s.For w a' b' ys) q
-    ∙ (ap (λ (w : Expr). s.For x w b' ys) low
-    ∙ (ap (λ (w : Expr). s.For x (numbered_expr (first + 1) a) w ys) high
-    ∙ (ap (λ (w : List Stmt). s.For x (numbered_expr (first + 1) a) (numbered_expr (first + 1 + expr_nodes a.kind) b) w) body
-    ∙ sym (ap (numbered_stmt first) h ∙ numbered-For first x a b xs)))) in
-    let counted = ap stmt_nodes h ∙ nodes-For x a b xs in
-    (made, omega (arith, counted, ex.1, from_high))
+-- what code has numbered of each form
 
-pub ruleset expr_rules = (
-  expr_lemmas,
-  nodes-Num,
-  nodes-Get,
-  nodes-Read,
-  nodes-Neg,
-  nodes-Add,
-  nodes-Sub,
-  nodes-Mul,
-  nodes-One,
-  nodes-Two,
-  numbered-Num,
-  numbered-Get,
-  numbered-Read,
-  numbered-Neg,
-  numbered-Add,
-  numbered-Sub,
-  numbered-Mul,
-  numbered-One,
-  numbered-Two,
-)
+pub num_numbered : (k : ExprKind) (n first second : ℕ) → k ≡ e.Num n → second ≡ min (first + 1) greatest → NumbersExprKind first k (e.Num n, second)
+num_numbered k n first second is s = leaf first (expr_nodes k) second (e.Num n) (numbered first k) s (ap expr_nodes is ∙ nodes-Num n) (ap (numbered first) is ∙ numbered-Num first n)
 
-pub ruleset cond_rules = (
-  cond_lemmas,
-  nodes-True,
-  nodes-False,
-  nodes-Rel,
-  nodes-Not,
-  nodes-And,
-  nodes-Or,
-  numbered-True,
-  numbered-False,
-  numbered-Rel,
-  numbered-Not,
-  numbered-And,
-  numbered-Or,
-)
+pub get_numbered : (k : ExprKind) (x y : NameBytes) (first second : ℕ) → k ≡ e.Get x → second ≡ min (first + 1) greatest → y ≡ x → NumbersExprKind first k (e.Get y, second)
+get_numbered k x y first second is s q =
+    leaf first (expr_nodes k) second (e.Get y) (numbered first k) s (ap expr_nodes is ∙ nodes-Get x) (ap (numbered first) is ∙ (numbered-Get first x ∙ ap (λ (w : NameBytes). e.Get w) (sym q)))
 
-pub ruleset stmt_rules = (
-  stmt_lemmas,
-  nodes-Set,
-  nodes-Put,
-  nodes-Hand,
-  nodes-Skip,
-  nodes-If,
-  nodes-For,
-  nodes-While,
-  numbered-Set,
-  numbered-Put,
-  numbered-Hand,
-  numbered-Skip,
-  numbered-If,
-  numbered-For,
-  numbered-While,
-)
+pub read_numbered : (k : ExprKind) (x y : NameBytes) (a b : Index) (first second next : ℕ) → k ≡ e.Read x a → second ≡ min (first + 1) greatest → y ≡ x → NumbersIndex second a (b, next) →
+    NumbersExprKind first k (e.Read y b, next)
+read_numbered k x y a b first second next is s q h =
+    one (λ (i : Index). e.Read y i) (λ n. numbered_index n a) first (expr_nodes k) second next (index_nodes a) b (numbered first k) s h (ap expr_nodes is ∙ nodes-Read x a)
+    (ap (numbered first) is ∙ (numbered-Read first x a ∙ ap (λ (w : NameBytes). e.Read w (numbered_index (first + 1) a)) (sym q)))
+
+pub neg_numbered : (k : ExprKind) (a b : Expr) (first second next : ℕ) → k ≡ e.Neg a → second ≡ min (first + 1) greatest → NumbersExpr second a (b, next) → NumbersExprKind first k (e.Neg b, next)
+neg_numbered k a b first second next is s h =
+    one (λ (i : Expr). e.Neg i) (λ n. numbered_expr n a) first (expr_nodes k) second next (expr_nodes a.kind) b (numbered first k) s h (ap expr_nodes is ∙ nodes-Neg a) (ap (numbered first) is ∙ numbered-Neg first a)
+
+pub operation_numbered : (make : Expr → Expr → ExprKind) → ((a b : Expr) → expr_nodes (make a b) ≡ 1 + expr_nodes a.kind + expr_nodes b.kind) →
+    ((n : ℕ) (a b : Expr) → numbered n (make a b) ≡ make (numbered_expr (n + 1) a) (numbered_expr (n + 1 + expr_nodes a.kind) b)) →
+    (k : ExprKind) (a a' b b' : Expr) (first second third next : ℕ) → k ≡ make a b → second ≡ min (first + 1) greatest →
+    NumbersExpr second a (a', third) → NumbersExpr third b (b', next) → NumbersExprKind first k (make a' b', next)
+operation_numbered make nodes numbers k a a' b b' first second third next is s h g =
+    two make (λ n. numbered_expr n a) (λ n. numbered_expr n b) first (expr_nodes k) second third next (expr_nodes a.kind) (expr_nodes b.kind) a' b' (numbered first k) s h g
+    (ap expr_nodes is ∙ nodes a b) (ap (numbered first) is ∙ numbers first a b)
+
+pub one_index_numbered : (k : Index) (a b : Expr) (first next : ℕ) → k ≡ i.One a → NumbersExpr first a (b, next) → NumbersIndex first k (i.One b, next)
+one_index_numbered k a b first next is h =
+    same (λ (x : Expr). i.One x) first (index_nodes k) next (expr_nodes a.kind) b (numbered_expr first a) (numbered_index first k) h (ap index_nodes is ∙ nodes-One a) (ap (numbered_index first) is ∙ numbered-One first a)
+
+pub two_indexes_numbered : (k : Index) (a a' b b' : Expr) (first second next : ℕ) → k ≡ i.Two a b → NumbersExpr first a (a', second) → NumbersExpr second b (b', next) → NumbersIndex first k (i.Two a' b', next)
+two_indexes_numbered k a a' b b' first second next is h g =
+    pair (λ (x y : Expr). i.Two x y) (λ n. numbered_expr n b) first (index_nodes k) second next (expr_nodes a.kind) (expr_nodes b.kind) a' (numbered_expr first a) b' (numbered_index first k) h g
+    (ap index_nodes is ∙ nodes-Two a b) (ap (numbered_index first) is ∙ numbered-Two first a b)
+
+pub whole_expr_numbered : (x : Expr) (n : Node) (k : ExprKind) (first next : ℕ) → n ≡ at first x.node → NumbersExprKind first x.kind (k, next) → NumbersExpr first x (record { node = n; kind = k }, next)
+whole_expr_numbered x n k first next is h =
+    same (λ (k : ExprKind). record { node = n; kind = k }) first (expr_nodes x.kind) next (expr_nodes x.kind) k (numbered first x.kind) (numbered_expr first x) h refl
+    (ap (λ (n : Node). record { node = n; kind = numbered first x.kind }) (sym is))
+
+pub truth_numbered : (t : CondKind) → cond_nodes t ≡ 1 → ((n : ℕ) → numbered_kind n t ≡ t) → (k : CondKind) (first second : ℕ) → k ≡ t → second ≡ min (first + 1) greatest → NumbersCondKind first k (t, second)
+truth_numbered t nodes numbers k first second is s = leaf first (cond_nodes k) second t (numbered_kind first k) s (ap cond_nodes is ∙ nodes) (ap (numbered_kind first) is ∙ numbers first)
+
+pub relation_numbered : (k : CondKind) (r : RelOp) (a a' b b' : Expr) (first second third next : ℕ) → k ≡ c.Rel r a b → second ≡ min (first + 1) greatest →
+    NumbersExpr second a (a', third) → NumbersExpr third b (b', next) → NumbersCondKind first k (c.Rel r a' b', next)
+relation_numbered k r a a' b b' first second third next is s h g =
+    two (λ (x y : Expr). c.Rel r x y) (λ n. numbered_expr n a) (λ n. numbered_expr n b) first (cond_nodes k) second third next (expr_nodes a.kind) (expr_nodes b.kind) a' b' (numbered_kind first k) s h g
+    (ap cond_nodes is ∙ nodes-Rel r a b) (ap (numbered_kind first) is ∙ numbered-Rel first r a b)
+
+pub not_numbered : (k : CondKind) (a b : Cond) (first second next : ℕ) → k ≡ c.Not a → second ≡ min (first + 1) greatest → NumbersCond second a (b, next) → NumbersCondKind first k (c.Not b, next)
+not_numbered k a b first second next is s h =
+    one (λ (x : Cond). c.Not x) (λ n. numbered_cond n a) first (cond_nodes k) second next (cond_nodes a.kind) b (numbered_kind first k) s h (ap cond_nodes is ∙ nodes-Not a) (ap (numbered_kind first) is ∙ numbered-Not first a)
+
+pub connective_numbered : (make : Cond → Cond → CondKind) → ((a b : Cond) → cond_nodes (make a b) ≡ 1 + cond_nodes a.kind + cond_nodes b.kind) →
+    ((n : ℕ) (a b : Cond) → numbered_kind n (make a b) ≡ make (numbered_cond (n + 1) a) (numbered_cond (n + 1 + cond_nodes a.kind) b)) →
+    (k : CondKind) (a a' b b' : Cond) (first second third next : ℕ) → k ≡ make a b → second ≡ min (first + 1) greatest →
+    NumbersCond second a (a', third) → NumbersCond third b (b', next) → NumbersCondKind first k (make a' b', next)
+connective_numbered make nodes numbers k a a' b b' first second third next is s h g =
+    two make (λ n. numbered_cond n a) (λ n. numbered_cond n b) first (cond_nodes k) second third next (cond_nodes a.kind) (cond_nodes b.kind) a' b' (numbered_kind first k) s h g
+    (ap cond_nodes is ∙ nodes a b) (ap (numbered_kind first) is ∙ numbers first a b)
+
+pub whole_cond_numbered : (x : Cond) (n : Node) (k : CondKind) (first next : ℕ) → n ≡ at first x.node → NumbersCondKind first x.kind (k, next) → NumbersCond first x (record { node = n; kind = k }, next)
+whole_cond_numbered x n k first next is h =
+    same (λ (k : CondKind). record { node = n; kind = k }) first (cond_nodes x.kind) next (cond_nodes x.kind) k (numbered_kind first x.kind) (numbered_cond first x) h refl
+    (ap (λ (n : Node). record { node = n; kind = numbered_kind first x.kind }) (sym is))
+
+pub set_numbered : (k : StmtKind) (x y : NameBytes) (a b : Expr) (first second next : ℕ) → k ≡ s.Set x a → second ≡ min (first + 1) greatest → y ≡ x → NumbersExpr second a (b, next) →
+    NumbersStmtKind first k (s.Set y b, next)
+set_numbered k x y a b first second next is t q h =
+    one (λ (z : Expr). s.Set y z) (λ n. numbered_expr n a) first (stmt_nodes k) second next (expr_nodes a.kind) b (numbered_stmt first k) t h (ap stmt_nodes is ∙ nodes-Set x a)
+    (ap (numbered_stmt first) is ∙ (numbered-Set first x a ∙ ap (λ (w : NameBytes). s.Set w (numbered_expr (first + 1) a)) (sym q)))
+
+pub put_numbered : (k : StmtKind) (x y : NameBytes) (a a' : Index) (b b' : Expr) (first second third next : ℕ) → k ≡ s.Put x a b → second ≡ min (first + 1) greatest → y ≡ x →
+    NumbersIndex second a (a', third) → NumbersExpr third b (b', next) → NumbersStmtKind first k (s.Put y a' b', next)
+put_numbered k x y a a' b b' first second third next is t q h g =
+    two (λ (i : Index) (z : Expr). s.Put y i z) (λ n. numbered_index n a) (λ n. numbered_expr n b) first (stmt_nodes k) second third next (index_nodes a) (expr_nodes b.kind) a' b' (numbered_stmt first k) t h g
+    (ap stmt_nodes is ∙ nodes-Put x a b) (ap (numbered_stmt first) is ∙ (numbered-Put first x a b ∙ ap (λ (w : NameBytes). s.Put w (numbered_index (first + 1) a) (numbered_expr (first + 1 + index_nodes a) b)) (sym q)))
+
+pub if_numbered : (k : StmtKind) (c c' : Cond) (xs xs' ys ys' : List Stmt) (first second third fourth next : ℕ) → k ≡ s.If c xs ys → second ≡ min (first + 1) greatest →
+    NumbersCond second c (c', third) → NumbersBlock third xs (xs', fourth) → NumbersBlock fourth ys (ys', next) → NumbersStmtKind first k (s.If c' xs' ys', next)
+if_numbered k c c' xs xs' ys ys' first second third fourth next is t h g f =
+    three (λ (x : Cond) (y z : List Stmt). s.If x y z) (λ n. numbered_cond n c) (λ n. numbered_list n xs) (λ n. numbered_list n ys) first (stmt_nodes k) second third fourth next
+    (cond_nodes c.kind) (list_nodes xs) (list_nodes ys) c' xs' ys' (numbered_stmt first k) t h g f (ap stmt_nodes is ∙ nodes-If c xs ys) (ap (numbered_stmt first) is ∙ numbered-If first c xs ys)
+
+pub for_numbered : (k : StmtKind) (x y : NameBytes) (a a' b b' : Expr) (xs xs' : List Stmt) (first second third fourth next : ℕ) → k ≡ s.For x a b xs → second ≡ min (first + 1) greatest → y ≡ x →
+    NumbersExpr second a (a', third) → NumbersExpr third b (b', fourth) → NumbersBlock fourth xs (xs', next) → NumbersStmtKind first k (s.For y a' b' xs', next)
+for_numbered k x y a a' b b' xs xs' first second third fourth next is t q h g f =
+    three (λ (u v : Expr) (z : List Stmt). s.For y u v z) (λ n. numbered_expr n a) (λ n. numbered_expr n b) (λ n. numbered_list n xs) first (stmt_nodes k) second third fourth next
+    (expr_nodes a.kind) (expr_nodes b.kind) (list_nodes xs) a' b' xs' (numbered_stmt first k) t h g f (ap stmt_nodes is ∙ nodes-For x a b xs)
+    (ap (numbered_stmt first) is
+    ∙ (numbered-For first x a b xs
+    ∙ ap (λ (w : NameBytes). s.For w (numbered_expr (first + 1) a) (numbered_expr (first + 1 + expr_nodes a.kind) b) (numbered_list (first + 1 + expr_nodes a.kind + expr_nodes b.kind) xs)) (sym q)))
+
+pub while_numbered : (k : StmtKind) (c c' : Cond) (xs xs' : List Stmt) (first second third next : ℕ) → k ≡ s.While c xs → second ≡ min (first + 1) greatest →
+    NumbersCond second c (c', third) → NumbersBlock third xs (xs', next) → NumbersStmtKind first k (s.While c' xs', next)
+while_numbered k c c' xs xs' first second third next is t h g =
+    two (λ (x : Cond) (y : List Stmt). s.While x y) (λ n. numbered_cond n c) (λ n. numbered_list n xs) first (stmt_nodes k) second third next (cond_nodes c.kind) (list_nodes xs) c' xs' (numbered_stmt first k) t h g
+    (ap stmt_nodes is ∙ nodes-While c xs) (ap (numbered_stmt first) is ∙ numbered-While first c xs)
+
+pub hand_numbered : (k : StmtKind) (x x' y y' : NameBytes) (first second : ℕ) → k ≡ s.Hand x y → second ≡ min (first + 1) greatest → x' ≡ x → y' ≡ y → NumbersStmtKind first k (s.Hand x' y', second)
+hand_numbered k x x' y y' first second is t q p =
+    leaf first (stmt_nodes k) second (s.Hand x' y') (numbered_stmt first k) t (ap stmt_nodes is ∙ nodes-Hand x y)
+    (ap (numbered_stmt first) is ∙ (numbered-Hand first x y ∙ (ap (λ (w : NameBytes). s.Hand w y) (sym q) ∙ ap (λ (w : NameBytes). s.Hand x' w) (sym p))))
+
+pub skip_numbered : (k : StmtKind) (first second : ℕ) → k ≡ s.Skip → second ≡ min (first + 1) greatest → NumbersStmtKind first k (s.Skip, second)
+skip_numbered k first second is t = leaf first (stmt_nodes k) second s.Skip (numbered_stmt first k) t (ap stmt_nodes is ∙ nodes-Skip) (ap (numbered_stmt first) is ∙ numbered-Skip first)
+
+pub whole_stmt_numbered : (x : Stmt) (n : Node) (k : StmtKind) (first next : ℕ) → n ≡ at first x.node → NumbersStmtKind first x.kind (k, next) → NumbersStmt first x (record { node = n; kind = k }, next)
+whole_stmt_numbered x n k first next is h =
+    same (λ (k : StmtKind). record { node = n; kind = k }) first (stmt_nodes x.kind) next (stmt_nodes x.kind) k (numbered_stmt first x.kind) (whole_stmt first x) h refl
+    (ap (λ (n : Node). record { node = n; kind = numbered_stmt first x.kind }) (sym is))

@@ -1,7 +1,7 @@
 //! The tree of a program with its nodes numbered in preorder.
-ghost use Rattle.std.specs.Prelude.{◌≡◌, ◌+◌, IfOk};
+ghost use Rattle.std.specs.Prelude.{◌≡◌, ◌+◌, min, IfOk};
 ghost use Rattle.ac_tree.specs.Numbering.{at};
-ghost use Rattle.ac_numbering.specs.Numbers.{NumbersExpr, NumbersExprKind, NumbersIndex, NumbersCond, NumbersCondKind, NumbersStmt, NumbersStmtKind, NumbersBlock, NumbersItem, NumbersItems, NumbersProgram};
+ghost use Rattle.ac_numbering.specs.Numbers.{greatest, NumbersExpr, NumbersExprKind, NumbersIndex, NumbersCond, NumbersCondKind, NumbersStmt, NumbersStmtKind, NumbersBlock, NumbersItem, NumbersItems, NumbersProgram};
 
 use ac_tree::{
     Cond, CondKind, Expr, ExprKind, Extent, Extents, Index, Item, ItemKind, LimitKind, Name, Node,
@@ -22,11 +22,11 @@ fn numbered(node: &Node, number: u32) -> Node
     }
 }
 
-/// The next number. A tree that needs more numbers than there are doesn't fit into memory.
-fn behind(number: u32) -> Result<u32, AllocError>
-    ensures { IfOk result (λ next. next ≡ number + 1) }
+/// The next number, and behind the greatest the greatest again: a tree that comes to it has more nodes than the limit.
+fn behind(number: u32) -> u32
+    ensures { result ≡ min (number + 1) greatest }
 {
-    number.checked_add(1).ok_or(AllocError)
+    number.saturating_add(1)
 }
 
 #[cycle(expr)]
@@ -40,17 +40,20 @@ fn number_expr(alloc: Global, expr: &Expr, first: u32) -> NumberResult<Expr>
 
 /// The kind of the node with the number `first`. What stands below it has the numbers behind.
 #[cycle(expr)]
-#[tactic(auto, using(crate::proofs::NumberRules::expr_rules))]
 fn number_expr_kind(alloc: Global, kind: &ExprKind, first: u32) -> NumberResult<ExprKind>
     ensures { IfOk result (λ r. NumbersExprKind first kind.now r) }
 {
-    let second = behind(first)?;
+    let second = behind(first);
     match kind {
         ExprKind::Num(number) => Ok((ExprKind::Num(*number), second)),
-        ExprKind::Get(name) => Ok((ExprKind::Get(name.clone()?), second)),
+        ExprKind::Get(name) => {
+            let name = name.clone()?;
+            Ok((ExprKind::Get(name), second))
+        }
         ExprKind::Read(name, index) => {
+            let name = name.clone()?;
             let (index, next) = number_index(alloc, index, second)?;
-            Ok((ExprKind::Read(name.clone()?, index), next))
+            Ok((ExprKind::Read(name, index), next))
         }
         ExprKind::Neg(inner) => {
             let (inner, next) = number_boxed_expr(alloc, inner, second)?;
@@ -75,7 +78,6 @@ fn number_expr_kind(alloc: Global, kind: &ExprKind, first: u32) -> NumberResult<
 }
 
 #[cycle(expr)]
-#[tactic(auto, using(crate::proofs::NumberRules::expr_rules))]
 fn number_index(alloc: Global, index: &Index, first: u32) -> NumberResult<Index>
     ensures { IfOk result (λ r. NumbersIndex first index.now r) }
 {
@@ -110,11 +112,10 @@ fn number_cond(alloc: Global, cond: &Cond, first: u32) -> NumberResult<Cond>
 }
 
 #[cycle(cond)]
-#[tactic(auto, using(crate::proofs::NumberRules::cond_rules))]
 fn number_cond_kind(alloc: Global, kind: &CondKind, first: u32) -> NumberResult<CondKind>
     ensures { IfOk result (λ r. NumbersCondKind first kind.now r) }
 {
-    let second = behind(first)?;
+    let second = behind(first);
     match kind {
         CondKind::True => Ok((CondKind::True, second)),
         CondKind::False => Ok((CondKind::False, second)),
@@ -158,11 +159,10 @@ fn number_stmt(alloc: Global, stmt: &Stmt, first: u32) -> NumberResult<Stmt>
 }
 
 #[cycle(stmt)]
-#[tactic(auto, using(crate::proofs::NumberRules::stmt_rules))]
 fn number_stmt_kind(alloc: Global, kind: &StmtKind, first: u32) -> NumberResult<StmtKind>
     ensures { IfOk result (λ r. NumbersStmtKind first kind.now r) }
 {
-    let second = behind(first)?;
+    let second = behind(first);
     match kind {
         StmtKind::Set { name, value } => {
             let name = name.clone()?;
@@ -272,7 +272,7 @@ fn number_item(item: &Item, number: u32) -> NumberResult<Item>
     let node = numbered(&item.node, number);
     let name = item.name.clone()?;
     let kind = copy_kind(&item.kind)?;
-    let next = behind(number)?;
+    let next = behind(number);
     Ok((Item { node, name, kind }, next))
 }
 

@@ -31,7 +31,8 @@ use Rattle.ac_tree.specs.Tokens as cut
 use Rattle.ac_tree.specs.Tokens.{kind_of_byte, keyword_of, marked, InName, Each, IsName, Lexes}
 use Rattle.ac_parse.specs.Opened.{hidden, expr_shape, expr_child, cond_shape, cond_child, stmt_child}
 use Rattle.ac_parse.specs.Parsing.{SpellsWithin}
-use Rattle.ac_program_printer.specs.Printable.{IsUnsigned, IsSigned, IsPrintableExpr, IsPrintableIndex, IsPrintableCond, IsPrintableStmt, IsPrintableBlock, IsPrintableList, IsPrintableExtent, IsPrintableExtents, IsPrintableKind, ArePrintableItems, IsPrintable}
+use Rattle.ac_program_printer.specs.Names.{IsUnsigned, IsSigned}
+use Rattle.ac_program_printer.proofs.Printable.{IsPrintableExpr, IsPrintableIndex, IsPrintableCond, IsPrintableStmt, IsPrintableBlock, IsPrintableList, IsPrintableExtent, IsPrintableExtents, IsPrintableKind, ArePrintableItems, IsPrintable}
 use Rattle.ac_program_printer.specs.Printing.{program_text}
 use Rattle.ac_program_printer.specs.SameUpToSpans.{changed_expr, changed_index, whole_expr, changed_cond, whole_cond, changed_stmt, changed_block, changed_list, changed_items, changed_program, SpellsUpToSpans}
 use Rattle.ac_tokens.specs.TokenFaults.{AreWithinLimits}

@@ -4,6 +4,7 @@ ghost use Rattle.ac_tree.specs.Grammar.{declaration as declaration_of};
 ghost use Rattle.ac_tokens.specs.TokenFaults.{IsWithinLimits};
 ghost use Rattle.ac_parse.specs.ReadProgram.{start as start_of, between, const_name, const_equal, int as int_of, negative as negative_of, input_kind as input_kind_of, const_ends, low_ends, high_ends, int_ends, stored_name, input_goes_on, var_kind as var_kind_of, var_ends, sized, named, extent_comes, extents_of as all_extents, next_extent, extent_ends, declare as declare_at, begin_of, program_of, body_ends, step as step_of, value as value_of};
 
+use crate::begun::Begun;
 use crate::statement;
 use crate::statement::StmtReading;
 use ac_expression_reader::expression::{join, unnumbered};
@@ -209,15 +210,15 @@ fn end_low(
 
 fn end_high(
     done: Items<Item>,
-    start: Span,
-    name: Name,
+    begun: Begun,
     extents: Option<Extents>,
     lo: i64,
     hi: i64,
     token: &Token,
 ) -> Result<Option<ProgramReading>, AllocError>
-    ensures { IfOk result (λ r. r ≡ high_ends done start name extents lo hi token.now.span token.now.mark) }
+    ensures { IfOk result (λ r. r ≡ high_ends done begun.start begun.name extents lo hi token.now.span token.now.mark) }
 {
+    let Begun { start, name } = begun;
     match &token.mark {
         Mark::Sign(Sign::Semicolon) => end(
             done,
@@ -245,7 +246,12 @@ fn step_int_read(
         IntUse::Value(start, name) => end_const(done, start, name, number, token),
         IntUse::Low(start, name, extents) => Ok(end_low(done, start, name, extents, number, token)),
         IntUse::High(start, name, extents, lo) => end_high(
-            done, start, name, extents, lo, number, token,
+            done,
+            Begun { start, name },
+            extents,
+            lo,
+            number,
+            token,
         ),
     }
 }
@@ -413,14 +419,14 @@ fn second_extent(
 fn step_extent_read(
     done: Items<Item>,
     storage: Storage,
-    start: Span,
-    name: Name,
+    begun: Begun,
     first: Option<Extent>,
     last: Extent,
     token: &Token,
 ) -> Option<ProgramReading>
-    ensures { result ≡ extent_ends done storage start name first last token.now.mark }
+    ensures { result ≡ extent_ends done storage begun.start begun.name first last token.now.mark }
 {
+    let Begun { start, name } = begun;
     match &token.mark {
         Mark::Sign(Sign::CloseBracket) => at(
             done,
@@ -460,7 +466,12 @@ fn declare(
             done, storage, start, name, first, token,
         ),
         DeclState::ExtentRead(storage, start, name, first, last) => Ok(step_extent_read(
-            done, storage, start, name, first, last, token,
+            done,
+            storage,
+            Begun { start, name },
+            first,
+            last,
+            token,
         )),
         DeclState::Extended(storage, start, name, extents) => step_sized(
             done,

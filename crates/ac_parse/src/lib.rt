@@ -9,6 +9,7 @@
 //! is unrolled there, and proved, by the cases of each part.
 #![tactic(auto)]
 
+mod begun;
 mod declaration;
 mod headers;
 mod laws;

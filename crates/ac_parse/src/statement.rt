@@ -6,6 +6,7 @@ ghost use Rattle.ac_expression_reader.specs.ReadExpression as expression_of;
 ghost use Rattle.ac_expression_reader.specs.ReadCondition as condition_of;
 ghost use Rattle.ac_parse.specs.ReadStatement.{reading as reading_of, ended, opened, finished, ending, turned, turning, between, evaluating, testing, naming, indexing, value_ends, first_ends, second_ends, cell_ends, low_ends, high_ends, behind as behind_use, then_comes, do_comes, tested, step as step_of, step_at, value as value_of, value_at, is_open as is_open_of, is_own as is_own_mark, start as start_of};
 
+use crate::begun::{Begun, Halfway};
 use crate::headers;
 use ac_expression_reader::condition::{CondReading, Test};
 use ac_expression_reader::expression::{Operand, Reading, join, unnumbered};
@@ -292,13 +293,13 @@ fn step_indexed(
     alloc: Global,
     stack: Stack<Frame>,
     done: Items<Stmt>,
-    name: Name,
-    start: Span,
+    begun: Begun,
     index: Index,
     token: &Token,
 ) -> Option<StmtReading>
-    ensures { result ≡ indexing stack done name start index token.now.mark }
+    ensures { result ≡ indexing stack done begun.name begun.start index token.now.mark }
 {
+    let Begun { start, name } = begun;
     match &token.mark {
         Mark::Sign(Sign::Assign) => evaluate(alloc, stack, done, ExprUse::Cell(name, start, index)),
         _ => {
@@ -341,13 +342,13 @@ fn end_first(
     alloc: Global,
     stack: Stack<Frame>,
     done: Items<Stmt>,
-    name: Name,
-    start: Span,
+    begun: Begun,
     x: Operand,
     token: &Token,
 ) -> Result<Option<StmtReading>, AllocError>
-    ensures { IfOk result (λ r. r ≡ first_ends stack done name start x token.now.mark) }
+    ensures { IfOk result (λ r. r ≡ first_ends stack done begun.name begun.start x token.now.mark) }
 {
+    let Begun { start, name } = begun;
     match &token.mark {
         Mark::Sign(Sign::CloseBracket) => {
             let index = Index::One(Boxed::new(alloc, x.expr)?);
@@ -382,14 +383,13 @@ fn end_second(
     alloc: Global,
     stack: Stack<Frame>,
     done: Items<Stmt>,
-    name: Name,
-    start: Span,
-    first: Expr,
+    halfway: Halfway,
     x: Operand,
     token: &Token,
 ) -> Result<Option<StmtReading>, AllocError>
-    ensures { IfOk result (λ r. r ≡ second_ends stack done name start first x token.now.mark) }
+    ensures { IfOk result (λ r. r ≡ second_ends stack done halfway.name halfway.start halfway.first x token.now.mark) }
 {
+    let Halfway { start, name, first } = halfway;
     match &token.mark {
         Mark::Sign(Sign::CloseBracket) => {
             let index = index_two(alloc, first, x.expr)?;
@@ -406,14 +406,14 @@ fn end_second(
 fn end_cell(
     stack: Stack<Frame>,
     done: Items<Stmt>,
-    name: Name,
-    start: Span,
+    begun: Begun,
     index: Index,
     x: Operand,
     token: &Token,
 ) -> Result<Option<StmtReading>, AllocError>
-    ensures { IfOk result (λ r. r ≡ cell_ends stack done name start index x token.now.span token.now.mark) }
+    ensures { IfOk result (λ r. r ≡ cell_ends stack done begun.name begun.start index x token.now.span token.now.mark) }
 {
+    let Begun { start, name } = begun;
     match &token.mark {
         Mark::Sign(Sign::Semicolon) => end(
             stack,
@@ -439,13 +439,13 @@ fn end_low(
     alloc: Global,
     stack: Stack<Frame>,
     done: Items<Stmt>,
-    start: Span,
-    name: Name,
+    begun: Begun,
     x: Operand,
     token: &Token,
 ) -> Option<StmtReading>
-    ensures { result ≡ low_ends stack done start name x token.now.mark }
+    ensures { result ≡ low_ends stack done begun.start begun.name x token.now.mark }
 {
+    let Begun { start, name } = begun;
     match &token.mark {
         Mark::Keyword(Keyword::To) => evaluate(
             alloc,
@@ -464,23 +464,22 @@ fn end_high(
     alloc: Global,
     stack: Stack<Frame>,
     done: Items<Stmt>,
-    start: Span,
-    name: Name,
-    low: Expr,
+    halfway: Halfway,
     x: Operand,
     token: &Token,
 ) -> Result<Option<StmtReading>, AllocError>
-    ensures { IfOk result (λ r. r ≡ high_ends stack done start name low x token.now.mark) }
+    ensures { IfOk result (λ r. r ≡ high_ends stack done halfway.start halfway.name halfway.first x token.now.mark) }
 {
+    let Halfway { start, name, first } = halfway;
     match &token.mark {
         Mark::Keyword(Keyword::Do) => open(
             alloc,
             stack,
             done,
-            OpenStmt::ForBody(start, name, low, x.expr),
+            OpenStmt::ForBody(start, name, first, x.expr),
         ),
         _ => {
-            drop(low);
+            drop(first);
             drop(x);
             Ok(None)
         }
@@ -500,13 +499,36 @@ fn behind(
 {
     match purpose {
         ExprUse::Value(name, start) => end_value(stack, done, name, start, x, token),
-        ExprUse::First(name, start) => end_first(alloc, stack, done, name, start, x, token),
+        ExprUse::First(name, start) => {
+            end_first(alloc, stack, done, Begun { start, name }, x, token)
+        }
         ExprUse::Second(name, start, first) => end_second(
-            alloc, stack, done, name, start, first, x, token,
+            alloc,
+            stack,
+            done,
+            Halfway { start, name, first },
+            x,
+            token,
         ),
-        ExprUse::Cell(name, start, index) => end_cell(stack, done, name, start, index, x, token),
-        ExprUse::Low(start, name) => Ok(end_low(alloc, stack, done, start, name, x, token)),
-        ExprUse::High(start, name, low) => end_high(alloc, stack, done, start, name, low, x, token),
+        ExprUse::Cell(name, start, index) => {
+            end_cell(stack, done, Begun { start, name }, index, x, token)
+        }
+        ExprUse::Low(start, name) => Ok(end_low(
+            alloc,
+            stack,
+            done,
+            Begun { start, name },
+            x,
+            token,
+        )),
+        ExprUse::High(start, name, first) => end_high(
+            alloc,
+            stack,
+            done,
+            Halfway { start, name, first },
+            x,
+            token,
+        ),
     }
 }
 
@@ -701,7 +723,12 @@ pub fn step(
         StmtState::Between => step_between(alloc, stack, done, token),
         StmtState::Named(name, start) => Ok(step_named(alloc, stack, done, name, start, token)),
         StmtState::Indexed(name, start, index) => Ok(step_indexed(
-            alloc, stack, done, name, start, index, token,
+            alloc,
+            stack,
+            done,
+            Begun { start, name },
+            index,
+            token,
         )),
         StmtState::Expression(purpose, reading) => step_expression(
             alloc, stack, done, purpose, reading, token,

@@ -1,7 +1,9 @@
 pub mod PrintRules
+pub mod Printable
 pub mod PrintCuts
 pub mod PrintExpressions
 pub mod PrintConditions
 pub mod PrintStatements
 pub mod PrintNumbers
 pub mod PrintPrograms
+pub mod Fits

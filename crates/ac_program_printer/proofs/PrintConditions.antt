@@ -17,7 +17,7 @@ use Rattle.ac_tree.specs.Grammar.{Tokens, join, condition, relation_sign, CondLe
 use Rattle.ac_tree.specs.Patterns.{Negation, Conjunction, Disjunction}
 use Rattle.ac_tree.specs.Tokens.{kind_of_byte, keyword_of}
 use Rattle.ac_program_printer.specs.Opened.{hidden, cond_shape, cond_child}
-use Rattle.ac_program_printer.specs.Printable.{IsPrintableCond}
+use Rattle.ac_program_printer.proofs.Printable.{IsPrintableCond}
 use Rattle.ac_program_printer.specs.Printing.{Text, is_braced, in_braces, cond_text, relation_text}
 use Rattle.ac_program_printer.specs.SameUpToSpans.{changed_cond}
 use Rattle.ac_program_printer.proofs.PrintCuts.{Any, Edge, Cuts, Shows, behind, as_tokens, as_text, weaker, sign_shows, spaced_shows, double_shows, word_shows, space_before, space_behind, space_after}

@@ -15,7 +15,7 @@ use Rattle.ac_tree.specs.Grammar.{Tokens, NameBytes, token, join, expression, Ex
 use Rattle.ac_tree.specs.Patterns.{Negative, Plus, Minus, Times, OneIndex, TwoIndexes}
 use Rattle.ac_tree.specs.Tokens.{kind_of_byte, IsName}
 use Rattle.ac_program_printer.specs.Opened.{hidden, expr_shape, expr_child}
-use Rattle.ac_program_printer.specs.Printable.{IsPrintableExpr, IsPrintableIndex}
+use Rattle.ac_program_printer.proofs.Printable.{IsPrintableExpr, IsPrintableIndex}
 use Rattle.ac_program_printer.specs.Printing.{Text, is_grouped, in_parens, expr_text, index_text}
 use Rattle.ac_program_printer.specs.SameUpToSpans.{changed_expr, changed_index}
 use Rattle.ac_program_printer.proofs.PrintCuts.{Any, Edge, Cuts, behind, as_tokens, as_text, weaker, name_shows, number_shows, sign_shows, spaced_shows}

@@ -20,7 +20,8 @@ use Rattle.ac_tree.specs.Grammar.{Tokens, NameBytes, join, node, declaration, fi
 use Rattle.ac_tree.specs.Numbering.{numbered_program}
 use Rattle.ac_tree.specs.Spelling.{Spells}
 use Rattle.ac_tree.specs.Tokens.{kind_of_byte, keyword_of, IsName, Lexes}
-use Rattle.ac_program_printer.specs.Printable.{IsSigned, IsPrintableExtent, IsPrintableExtents, IsPrintableKind, ArePrintableItems, IsPrintable}
+use Rattle.ac_program_printer.specs.Names.{IsSigned}
+use Rattle.ac_program_printer.proofs.Printable.{IsPrintableExtent, IsPrintableExtents, IsPrintableKind, ArePrintableItems, IsPrintable}
 use Rattle.ac_program_printer.specs.Printing.{Text, line, extent_text, extents_text, range_text, item_text, items_text, program_text}
 use Rattle.ac_program_printer.specs.SameUpToSpans.{spanless, changed_items, changed_program, IsSameUpToSpans, IsNumbered, SpellsUpToSpans}
 use Rattle.ac_program_printer.proofs.PrintCuts.{Any, Edge, Cuts, Shows, behind, as_tokens, weaker, empty_cuts, indent_cuts, line_cuts, name_shows, number_shows, sign_shows, spaced_shows, double_shows, word_shows, space_behind}

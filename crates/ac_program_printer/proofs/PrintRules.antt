@@ -1,5 +1,5 @@
 -- The text of statements with blocks, by the constructors that code sees.
-use Rattle.std.proofs.Common.{◌≡◌, ℕ, ◌+◌, ◌<◌, ◌≤◌, List, ◌++◌, length, drop, get_or, refl, sym, ◌∙◌, ap, rules, arith, codes, append_assoc, append-nil}
+use Rattle.std.proofs.Common.{◌≡◌, ℕ, ◌+◌, ◌<◌, ◌≤◌, List, ◌++◌, length, length-append, drop, get_or, refl, sym, ◌∙◌, ap, rules, arith, codes, append_assoc, append-nil}
 use Rattle.std.proofs.lemmas.List.{drop_more, drop_all}
 use mathlib.Core.Former.{Count}
 use Rattle.ac_tree.specs.declared.program.Cond.{Cond}
@@ -9,7 +9,7 @@ use Rattle.ac_tree.specs.declared.program.Stmt.{Stmt}
 use Rattle.ac_tree.specs.declared.program.StmtKind.{StmtKind, the_lemmas as stmt_lemmas, Row_of-Stmt, end_of-Stmt, more_of-Stmt, items-the_row-Stmt}
 use Rattle.ac_tree.specs.declared.program.StmtKind.TheVariants as s
 use Rattle.ac_tree.specs.Grammar.{NameBytes}
-use Rattle.ac_program_printer.specs.Printing.{Text, when, line, else_line, has_statements, expr_text, cond_text, stmt_text, block_text, list_text, item_text, items_text}
+use Rattle.ac_program_printer.specs.Printing.{Text, when, indent, line, else_line, has_statements, expr_text, cond_text, stmt_text, block_text, list_text, item_text, items_text}
 
 -- a row of statements is a list
 
@@ -34,6 +34,30 @@ pub text-While : (d : ℕ) (t : Cond) (xs : List Stmt) → stmt_text d (s.While 
 text-While d t xs = first_of (search (rules, stmt_lemmas, block_text-items), grind (arith, stmt_lemmas, block_text-items))
 
 pub ruleset print_rules = (stmt_lemmas)
+
+-- what is written stays, so a text has no fewer bytes than before, and more behind a line
+
+pub longer : (d : ℕ) (o s p : Text) → s ≡ o ++ p → d ≤ length o → d ≤ length s
+longer d o s p written h = let l = ap length written in let m = length-append o p in omega arith
+
+pub line_longer : (d n : ℕ) (o s t : Text) → s ≡ o ++ line n t → d ≤ length o → d < length s
+line_longer d n o s t written h =
+    let whole : length s ≡ length o + length (line n t) = ap length written ∙ length-append o (line n t) in
+    let ended : length (line n t) ≡ length (indent n ++ t) + length (codes "\n") = length-append (indent n ++ t) (codes "\n") in
+    let feed : length (codes "\n") ≡ 1 = refl in omega (arith, whole, ended, feed)
+
+pub test_longer : (d : ℕ) (t : Cond) (before after o s : Text) → s ≡ o ++ line d (before ++ cond_text t.kind ++ after) → d ≤ length o → d < length s
+test_longer d t before after o s = line_longer d d o s (before ++ cond_text t.kind ++ after)
+
+pub header_longer : (d : ℕ) (x : NameBytes) (a b : Expr) (o s : Text) → s ≡ o ++ line d (codes "for " ++ x ++ codes " := " ++ expr_text a.kind ++ codes " to " ++ expr_text b.kind ++ codes " do") →
+    d ≤ length o → d < length s
+header_longer d x a b o s = line_longer d d o s (codes "for " ++ x ++ codes " := " ++ expr_text a.kind ++ codes " to " ++ expr_text b.kind ++ codes " do")
+
+pub deeper_fits : (d e : ℕ) (s : Text) → e ≡ d + 1 → d < length s → e ≤ length s
+deeper_fits d e s one h = omega arith
+
+pub first_longer : (n : ℕ) (o s t : Text) → s ≡ o ++ line n t → 1 ≤ length s
+first_longer n o s t written = let l = line_longer 0 n o s t written (omega arith) in omega arith
 
 -- what code has written, one piece after the other
 

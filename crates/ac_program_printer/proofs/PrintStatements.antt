@@ -17,7 +17,7 @@ use Rattle.ac_tree.specs.declared.token.Sign.TheVariants as sign
 use Rattle.ac_tree.specs.Grammar as spells
 use Rattle.ac_tree.specs.Grammar.{Tokens, NameBytes, token, join, statement, SpellsStmt, SpellsBlock, Sum}
 use Rattle.ac_tree.specs.Tokens.{kind_of_byte, keyword_of, InName, Each, IsName}
-use Rattle.ac_program_printer.specs.Printable.{IsPrintableStmt, IsPrintableBlock, IsPrintableList}
+use Rattle.ac_program_printer.proofs.Printable.{IsPrintableStmt, IsPrintableBlock, IsPrintableList}
 use Rattle.ac_program_printer.specs.Printing.{Text, when, line, has_statements, expr_text, index_text, cond_text, stmt_text, block_text, list_text}
 use Rattle.ac_program_printer.specs.SameUpToSpans.{changed_expr, changed_index, changed_cond, whole_expr, whole_cond, changed_stmt, changed_block, changed_list}
 use Rattle.ac_program_printer.proofs.PrintCuts.{Any, Edge, Cuts, Shows, behind, as_tokens, weaker, empty_cuts, indent_cuts, line_cuts, name_shows, sign_shows, double_shows, word_shows, space_before, space_behind}

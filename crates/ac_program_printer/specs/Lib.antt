@@ -1,4 +1,4 @@
 pub mod Opened
 pub mod Printing
-pub mod Printable
+pub mod Names
 pub mod SameUpToSpans

@@ -2,6 +2,7 @@
 #![tactic(auto)]
 
 mod laws;
+mod numbers;
 mod print_condition;
 mod print_expression;
 mod print_program;

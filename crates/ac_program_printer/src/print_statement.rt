@@ -1,5 +1,5 @@
 //! The text of statements, each on lines of its own.
-ghost use Rattle.std.specs.Prelude.{◌≡◌, ◌++◌, ◌+◌, IfOk, OnOk, string_bytes, codes};
+ghost use Rattle.std.specs.Prelude.{◌≡◌, ◌++◌, ◌+◌, ◌<◌, ◌≤◌, length, OnOk, string_bytes, codes};
 ghost use Rattle.ac_program_printer.specs.Printing.{indent, line, expr_text, index_text, cond_text, stmt_text, list_text, else_line};
 
 use crate::print_condition::write_cond;
@@ -114,11 +114,14 @@ fn write_hand(out: &mut String, depth: u64, name: &Name, role: &Name) -> Result<
     out.push_str(";\n")
 }
 
-/// The number of blocks round what stands in a block inside; a tree that has more than fit doesn't fit into memory.
-fn deeper(depth: u64) -> Result<u64, AllocError>
-    ensures { IfOk result (λ deeper. deeper ≡ depth + 1) }
+/// The number of blocks round what stands in one more. Each has left bytes in the text that is written, so there are never
+/// too many to count.
+fn one_deeper(out: &String, depth: u64) -> u64
+    requires { depth < length (string_bytes out.now) }
+    ensures { result ≡ depth + 1 }
 {
-    depth.checked_add(1).ok_or(AllocError)
+    let _written = out.as_str().len();
+    depth + 1
 }
 
 /// Writes `else`, if the part for no has statements.
@@ -131,18 +134,19 @@ fn write_else(out: &mut String, depth: u64, no: &[Stmt]) -> Result<(), AllocErro
     Ok(())
 }
 
-/// Writes a statement that stands inside `depth` blocks.
+/// Writes a statement that stands inside `depth` blocks, each of which has left bytes in the text.
 #[cycle(print_stmt)]
 #[tactic(auto, using(crate::proofs::PrintRules::print_rules))]
 fn write_stmt(out: &mut String, depth: u64, stmt: &Stmt) -> Result<(), AllocError>
+    requires { depth ≤ length (string_bytes out.old) }
     ensures { OnOk result (string_bytes out.new ≡ string_bytes out.old ++ stmt_text depth stmt.now.kind) }
 {
     match &stmt.kind {
         StmtKind::Set { name, value } => write_set(out, depth, name, value),
         StmtKind::Put { name, index, value } => write_put(out, depth, name, index, value),
         StmtKind::If { test, yes, no } => {
-            let deeper = deeper(depth)?;
             write_test(out, depth, "if ", test, " then")?;
+            let deeper = one_deeper(out, depth);
             write_block(out, deeper, yes.as_slice())?;
             write_else(out, depth, no.as_slice())?;
             write_block(out, deeper, no.as_slice())?;
@@ -150,15 +154,15 @@ fn write_stmt(out: &mut String, depth: u64, stmt: &Stmt) -> Result<(), AllocErro
             Ok(())
         }
         StmtKind::For { name, lo, hi, body } => {
-            let deeper = deeper(depth)?;
             write_header(out, depth, name, lo, hi)?;
+            let deeper = one_deeper(out, depth);
             write_block(out, deeper, body.as_slice())?;
             write_line(out, depth, "end")?;
             Ok(())
         }
         StmtKind::While { test, body } => {
-            let deeper = deeper(depth)?;
             write_test(out, depth, "while ", test, " do")?;
+            let deeper = one_deeper(out, depth);
             write_block(out, deeper, body.as_slice())?;
             write_line(out, depth, "end")?;
             Ok(())
@@ -168,10 +172,11 @@ fn write_stmt(out: &mut String, depth: u64, stmt: &Stmt) -> Result<(), AllocErro
     }
 }
 
-/// Writes statements that stand inside `depth` blocks.
+/// Writes statements that stand inside `depth` blocks, each of which has left bytes in the text.
 #[cycle(print_stmt)]
 #[tactic(auto, using(crate::proofs::PrintRules::print_rules))]
 pub fn write_block(out: &mut String, depth: u64, block: &[Stmt]) -> Result<(), AllocError>
+    requires { depth ≤ length (string_bytes out.old) }
     ensures { OnOk result (string_bytes out.new ≡ string_bytes out.old ++ list_text depth block.now) }
 {
     for stmt in block {

@@ -8,3 +8,4 @@ pub mod Known
 pub mod Walk
 pub mod Depth
 pub mod Gathering
+pub mod RuleNames

@@ -11,11 +11,11 @@ ghost use Rattle.ac_proof.specs.Gathering.{some_if, facts_behind};
 ghost use Rattle.ac_proof.specs.Rules.{IsInstance};
 ghost use Rattle.ac_proof.specs.Checked.{goal_of};
 
+use crate::facts::Facts;
 use crate::tree::ProofTree;
-use ac_linear::{LinFault, Linear, combine, normal};
+use ac_linear::{LinFault, Linear, PrintedLinear, combine_printed};
 use ac_logic::{Formula, Term};
 use ac_shared::Shared;
-use sqlite_items::Items;
 use std::alloc::{AllocError, Global};
 
 pub fn is_linear(
@@ -32,7 +32,7 @@ pub fn is_linear(
     if factors.len() != facts.len() {
         return Ok(false);
     }
-    contradicts(alloc, facts.as_slice(), factors)
+    contradicts(alloc, facts, factors)
 }
 
 /// The facts of a step; none where a formula is no fact, or too wide for one.
@@ -40,7 +40,7 @@ fn facts_of(
     alloc: Global,
     goal: &Formula,
     premises: &[ProofTree],
-) -> Result<Option<Items<Linear>>, AllocError>
+) -> Result<Option<Facts>, AllocError>
     ensures { IfOk result (λ facts. facts ≡ facts_of_step goal.now (map goal_of premises.now)) }
 {
     let Some(mut facts) = denial_of(alloc, goal)? else {
@@ -54,11 +54,11 @@ fn facts_of(
 }
 
 /// The fact that the goal gives, if it gives one.
-fn denial_of(alloc: Global, goal: &Formula) -> Result<Option<Items<Linear>>, AllocError>
+fn denial_of(alloc: Global, goal: &Formula) -> Result<Option<Facts>, AllocError>
     ensures { IfOk result (λ facts. facts ≡ and_then (denial goal.now) (facts_behind [])) }
 {
     match goal {
-        Formula::False => Ok(Some(Items::new(alloc))),
+        Formula::False => Ok(Some(Facts::new(alloc))),
         Formula::Le(s, t) => denial_of_order(alloc, s, t),
         _ => Ok(None),
     }
@@ -69,7 +69,7 @@ fn denial_of_order(
     alloc: Global,
     s: &Shared<Term>,
     t: &Shared<Term>,
-) -> Result<Option<Items<Linear>>, AllocError>
+) -> Result<Option<Facts>, AllocError>
     ensures { IfOk result (λ facts. facts ≡ facts_behind [] (Le (next t.now) s.now ∷ [])) }
 {
     let one = Shared::new(alloc, Term::Num(1))?;
@@ -77,17 +77,13 @@ fn denial_of_order(
     let Some(fact) = difference(alloc, &above, s)? else {
         return Ok(None)
     };
-    let mut facts = Items::new(alloc);
+    let mut facts = Facts::new(alloc);
     facts.push(fact)?;
     Ok(Some(facts))
 }
 
 /// Pushes the facts of the premises. False says that one is no fact, or too wide.
-fn push_facts(
-    alloc: Global,
-    facts: &mut Items<Linear>,
-    premises: &[ProofTree],
-) -> Result<bool, AllocError>
+fn push_facts(alloc: Global, facts: &mut Facts, premises: &[ProofTree]) -> Result<bool, AllocError>
     ensures { IfOk result (λ all. some_if all facts.new ≡ facts_behind facts.old (map goal_of premises.now)) }
 {
     for p in premises {
@@ -99,11 +95,7 @@ fn push_facts(
 }
 
 /// Pushes the fact of a formula.
-fn push_fact(
-    alloc: Global,
-    facts: &mut Items<Linear>,
-    formula: &Formula,
-) -> Result<bool, AllocError>
+fn push_fact(alloc: Global, facts: &mut Facts, formula: &Formula) -> Result<bool, AllocError>
     ensures { IfOk result (λ pushed. some_if pushed facts.new ≡ facts_behind facts.old (formula.now ∷ [])) }
 {
     let Formula::Le(u, v) = formula else {
@@ -121,11 +113,11 @@ fn difference(
     alloc: Global,
     u: &Shared<Term>,
     v: &Shared<Term>,
-) -> Result<Option<Linear>, AllocError>
+) -> Result<Option<PrintedLinear>, AllocError>
     ensures { IfOk result (λ form. form ≡ normal_of (Sub u.now v.now)) }
 {
     let difference = Shared::new(alloc, Term::Sub(u.share()?, v.share()?))?;
-    match normal(alloc, difference.get()) {
+    match PrintedLinear::normal(alloc, difference.get()) {
         Ok(form) => Ok(Some(form)),
         Err(LinFault::Wide) => Ok(None),
         Err(LinFault::OutOfMemory) => Err(AllocError),
@@ -133,10 +125,10 @@ fn difference(
 }
 
 /// Whether the combination of the facts is a contradiction.
-fn contradicts(alloc: Global, facts: &[Linear], factors: &[u64]) -> Result<bool, AllocError>
-    ensures { IfOk result (λ holds. IsTrue holds ↔ ((sum : AnyLinear) × (combination_of facts.now factors.now ≡ Some sum) × IsContradiction sum)) }
+fn contradicts(alloc: Global, facts: Facts, factors: &[u64]) -> Result<bool, AllocError>
+    ensures { IfOk result (λ holds. IsTrue holds ↔ ((sum : AnyLinear) × (combination_of facts factors.now ≡ Some sum) × IsContradiction sum)) }
 {
-    match combine(alloc, facts, factors) {
+    match combine_printed(alloc, facts.into_vec(), factors) {
         Ok(sum) => Ok(is_contradiction(&sum)),
         Err(LinFault::Wide) => Ok(false),
         Err(LinFault::OutOfMemory) => Err(AllocError),

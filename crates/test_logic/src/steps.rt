@@ -1,6 +1,6 @@
 //! Steps of proofs from their texts: a rule is its name with its numbers of one digit, as `linear 1 1`, or its term.
 use crate::texts::{formula_of, term_of};
-use ac_proof::{ProofTree, Rule};
+use ac_proof::{ProofTree, Rule, RuleName};
 use sqlite_items::Items;
 use std::alloc::{AllocError, Global};
 use std::process::Abort;
@@ -29,25 +29,26 @@ pub fn open_step<R: Abort>(rt: &R, alloc: Global, goal: &str) -> Result<ProofTre
 
 fn rule_of<R: Abort>(rt: &R, alloc: Global, text: &str) -> Result<Option<Rule>, Fail> {
     let Some((name, data)) = text.split_once(' ') else {
-        return Ok(plain_rule(text));
+        return Ok(RuleName::of(text).and_then(RuleName::plain));
     };
-    if name == "all-elim" {
-        let t = term_of(rt, alloc, data)?;
-        return Ok(Some(Rule::AllElim { t }));
+    match RuleName::of(name) {
+        Some(RuleName::AllElim) => Ok(Some(Rule::AllElim {
+            t: term_of(rt, alloc, data)?,
+        })),
+        Some(name) => Ok(numbered_rule(name, numbers_of(alloc, data)?)),
+        None => Ok(None),
     }
-    let numbers = numbers_of(alloc, data)?;
-    Ok(numbered_rule(name, numbers))
 }
 
-fn numbered_rule(name: &str, numbers: Items<u64>) -> Option<Rule> {
+fn numbered_rule(name: RuleName, numbers: Items<u64>) -> Option<Rule> {
     let first = numbers.get(0).copied().unwrap_or(0);
     match name {
-        "hyp" => Some(Rule::Hyp { n: first }),
-        "all-intro" => match u32::try_from(first) {
+        RuleName::Hyp => Some(Rule::Hyp { n: first }),
+        RuleName::AllIntro => match u32::try_from(first) {
             Ok(k) => Some(Rule::AllIntro { k }),
             Err(_) => None,
         },
-        "linear" => Some(Rule::Linear { factors: numbers }),
+        RuleName::Linear => Some(Rule::Linear { factors: numbers }),
         _ => None,
     }
 }
@@ -60,30 +61,4 @@ fn numbers_of(alloc: Global, digits: &str) -> Result<Items<u64>, AllocError> {
         }
     }
     Ok(numbers)
-}
-
-fn plain_rule(name: &str) -> Option<Rule> {
-    match name {
-        "true-intro" => Some(Rule::TrueIntro),
-        "false-elim" => Some(Rule::FalseElim),
-        "and-intro" => Some(Rule::AndIntro),
-        "and-left" => Some(Rule::AndLeft),
-        "and-right" => Some(Rule::AndRight),
-        "or-left" => Some(Rule::OrLeft),
-        "or-right" => Some(Rule::OrRight),
-        "or-elim" => Some(Rule::OrElim),
-        "implies-intro" => Some(Rule::ImpliesIntro),
-        "implies-elim" => Some(Rule::ImpliesElim),
-        "not-intro" => Some(Rule::NotIntro),
-        "not-elim" => Some(Rule::NotElim),
-        "classical" => Some(Rule::Classical),
-        "lab-intro" => Some(Rule::LabIntro),
-        "lab-elim" => Some(Rule::LabElim),
-        "eq-le" => Some(Rule::EqLe),
-        "le-total" => Some(Rule::LeTotal),
-        "eq-split" => Some(Rule::EqSplit),
-        "read-put" => Some(Rule::ReadPut),
-        "read-same" => Some(Rule::ReadSame),
-        _ => None,
-    }
 }

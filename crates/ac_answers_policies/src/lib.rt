@@ -1,0 +1,4 @@
+//! The driver's answers about sites and policies.
+#![tactic(auto)]
+
+pub mod policies;

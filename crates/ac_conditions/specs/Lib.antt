@@ -1,0 +1,13 @@
+pub mod Opened
+pub mod Tests
+pub mod Part
+pub mod Ranges
+pub mod Goals
+pub mod Preconditions
+pub mod Hypotheses
+pub mod Conditions
+pub mod Targets
+pub mod AllConditions
+pub mod Marked
+pub mod Weights
+pub mod Examples

@@ -1,0 +1,4 @@
+pub mod SiteLists
+pub mod SiteFacts
+pub mod SiteOrder
+pub mod ShadowChanges

@@ -1,0 +1,21 @@
+pub mod Opened
+pub mod Terms
+pub mod Sites
+pub mod State
+pub mod Extents
+pub mod WithoutShadow
+pub mod Init
+pub mod Bounds
+pub mod Symm
+pub mod AnyPolicy
+pub mod Plain
+pub mod Laws
+-- Reading may stop here: what follows is the proofs that the three policies have the laws, and no promise rests on it.
+pub mod GoodExtents
+pub mod ExtentValues
+pub mod FittingStart
+pub mod PlainLaws
+pub mod InitLaws
+pub mod BoundsLaws
+pub mod SymmLaws
+pub mod AnyPolicyLaws

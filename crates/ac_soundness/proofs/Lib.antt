@@ -1,0 +1,14 @@
+pub mod Writes
+pub mod PathsHold
+pub mod SitesHold
+pub mod Traces
+pub mod PlainTerms
+pub mod KeptByWrites
+pub mod Values
+pub mod Truths
+pub mod Loops
+pub mod Entering
+pub mod Induction
+pub mod Ranks
+pub mod RangesHold
+pub mod ConditionsValid

@@ -1,0 +1,5 @@
+pub mod Rows
+pub mod Steps
+pub mod Choices
+pub mod Holders
+pub mod Whole
