@@ -1,12 +1,14 @@
 -- Single steps at a read and a put, whose children are too many for a search.
-use Rattle.std.proofs.Common.{◌≡◌, ◌∙◌, ℕ, List, Option}
+use Rattle.std.proofs.Common.{◌≡◌, ◌∙◌, ℕ, List, ◌++◌, Option}
 use Rattle.ac_logic.specs.declared.formula.Term.{Term}
 use Rattle.ac_logic.specs.declared.formula.ArrayTerm.{ArrayTerm}
 use Rattle.ac_logic.specs.Patterns.{PutOf, ReadOf}
 use Rattle.ac_logic.specs.Answer.{renewed}
 use Rattle.ac_expand.specs.Digest.{mixed, digest_of, digest_of_array}
 use Rattle.ac_expand.specs.Ground.{with_terms, array_with_terms}
+use Rattle.ac_expand.specs.Index.{index, indexes_in, indexes_in_array}
 use Rattle.ac_expand.specs.Opened.{hidden, term_shape, term_child, array_shape, array_child}
+use Rattle.ac_expand.proofs.Lists.{in_front}
 
 pub put_with : (e : List Term) (t a a2 : ArrayTerm) (i i2 j j2 v v2 : Term) (b : Option ArrayTerm) (k l u : Option Term) (new : Option ArrayTerm) → t ≡ PutOf a i j v → a2 ≡ a → i2 ≡ i → j2 ≡ j → v2 ≡ v → renewed a2 b ≡ array_with_terms e a2 → renewed i2 k ≡ with_terms e i2 → renewed j2 l ≡ with_terms e j2 → renewed v2 u ≡ with_terms e v2 → renewed (PutOf a i j v) new ≡ PutOf (renewed a b) (renewed i k) (renewed j l) (renewed v u) → renewed t new ≡ array_with_terms e t
 unfolding hidden term_shape term_child array_shape array_child
@@ -34,3 +36,10 @@ put_digest t a a2 i i2 j v v2 ra x ri y rv z is p q s ha hx hi hy hv hz =
     let y1 : x ≡ mixed 11 (digest_of_array a) = hx ∙ λ m. mixed 11 (x1 m) in
     let y2 : y ≡ mixed (mixed 11 (digest_of_array a)) (digest_of i) = hy ∙ λ m. mixed (y1 m) (x2 m) in
     rw is (hz ∙ λ m. mixed (y2 m) (x3 m))
+
+pub put_indexes : (t a a2 : ArrayTerm) (i j v v2 : Term) (r0 r1 r2 r3 r4 : List Term) → t ≡ PutOf a i j v → a2 ≡ a → v2 ≡ v → r1 ≡ indexes_in v2 ++ r0 → r2 ≡ (index j ++ indexes_in j) ++ r1 → r3 ≡ (index i ++ indexes_in i) ++ r2 → r4 ≡ indexes_in_array a2 ++ r3 → r4 ≡ indexes_in_array t ++ r0
+unfolding hidden term_shape term_child array_shape array_child
+put_indexes t a a2 i j v v2 r0 r1 r2 r3 r4 is p s hv hj hi ha =
+    let x1 : r1 ≡ indexes_in v ++ r0 = rw s at hv in
+    let x2 : r4 ≡ indexes_in_array a ++ r3 = rw p at ha in
+    rw is (in_front _ _ r0 r1 r4 x1 (in_front _ _ r1 r2 r4 hj (in_front _ _ r2 r3 r4 hi x2)))
