@@ -1,12 +1,12 @@
 -- Single steps at a read and a put, whose children are too many for a search.
-use Rattle.std.proofs.Common.{◌≡◌, ◌∙◌, ℕ, List, ◌++◌, Option}
+use Rattle.std.proofs.Common.{◌≡◌, ◌∙◌, ℕ, Bool, ◌&&◌, List, ◌++◌, Option}
 use Rattle.ac_logic.specs.declared.formula.Term.{Term}
 use Rattle.ac_logic.specs.declared.formula.ArrayTerm.{ArrayTerm}
 use Rattle.ac_logic.specs.Patterns.{PutOf, ReadOf}
 use Rattle.ac_logic.specs.Answer.{renewed}
 use Rattle.ac_expand.specs.Digest.{mixed, digest_of, digest_of_array}
 use Rattle.ac_expand.specs.Ground.{with_terms, array_with_terms}
-use Rattle.ac_expand.specs.Index.{index, indexes_in, indexes_in_array}
+use Rattle.ac_expand.specs.Index.{index, indexes_in, indexes_in_array, is_ground, is_ground_array}
 use Rattle.ac_expand.specs.Opened.{hidden, term_shape, term_child, array_shape, array_child}
 use Rattle.ac_expand.proofs.Lists.{in_front}
 
@@ -43,3 +43,10 @@ put_indexes t a a2 i j v v2 r0 r1 r2 r3 r4 is p s hv hj hi ha =
     let x1 : r1 ≡ indexes_in v ++ r0 = rw s at hv in
     let x2 : r4 ≡ indexes_in_array a ++ r3 = rw p at ha in
     rw is (in_front _ _ r0 r1 r4 x1 (in_front _ _ r1 r2 r4 hj (in_front _ _ r2 r3 r4 hi x2)))
+
+pub put_ground : (t a a2 : ArrayTerm) (i j v v2 : Term) (b k l u r : Bool) → t ≡ PutOf a i j v → a2 ≡ a → v2 ≡ v → u ≡ is_ground v2 → l ≡ is_ground j → k ≡ is_ground i → b ≡ is_ground_array a2 → r ≡ (b && k && l && u) → r ≡ is_ground_array t
+unfolding hidden term_shape term_child array_shape array_child
+put_ground t a a2 i j v v2 b k l u r is p s hu hl hk hb h =
+    let x1 : u ≡ is_ground v = rw s at hu in
+    let x2 : b ≡ is_ground_array a = rw p at hb in
+    rw is (h ∙ λ m. x2 m && hk m && hl m && x1 m)

@@ -1,5 +1,5 @@
 //! The index terms of a formula.
-ghost use Rattle.std.specs.Prelude.{◌≡◌, ◌++◌, ◌∷◌, [], if◌then◌else◌, reverse, IfOk, OnOk};
+ghost use Rattle.std.specs.Prelude.{◌≡◌, ◌++◌, ◌∷◌, [], ◌&&◌, if◌then◌else◌, reverse, IfOk, OnOk};
 ghost use Rattle.ac_expand.specs.Index.{first_names, index, indexes, indexes_in, indexes_in_array, is_ground, is_ground_array, once, with_term};
 ghost use Rattle.ac_expand.specs.Keys.{terms_of};
 
@@ -160,9 +160,16 @@ fn add_array(array: &ArrayTerm, found: &mut Items<Shared<Term>>) -> Result<bool,
             let second = add_index(j, found)?;
             let first = add_index(i, found)?;
             let array = add_array(a.get(), found)?;
-            Ok(array && first && second && value)
+            Ok(all_closed(array, first, second, value))
         }
     }
+}
+
+/// Whether no bound name stands in the parts of a put.
+fn all_closed(array: bool, first: bool, second: bool, value: bool) -> bool
+    ensures { result ≡ (array && first && second && value) }
+{
+    array && first && second && value
 }
 
 /// Adds what stands in an index, and then the index itself, where no bound name stands in it.
