@@ -1,13 +1,12 @@
 -- One more instance is made.
-use Rattle.std.proofs.Common.{◌≡◌, ℕ, ◌+◌, ◌<◌, List, [], ◌∷◌, drop, length, get_or, Option, Some, None, Bool, true, false, sym, ◌∙◌, ap}
+use Rattle.std.proofs.Common.{◌≡◌, ℕ, ◌+◌, ◌<◌, List, [], ◌∷◌, drop, length, get_or, Option, Some, None, true, false, sym, ◌∙◌, ap}
 use Rattle.std.specs.Prelude.{MatchOption}
 use Rattle.std.proofs.lemmas.List.{drop_more}
 use Rattle.ac_logic.specs.declared.formula.Term.{Term}
 use Rattle.ac_logic.specs.declared.formula.Formula.{Formula}
-use Rattle.ac_logic.specs.declared.formula.Sym.TheVariants.{Fresh}
-use Rattle.ac_logic.specs.Patterns.{Conjunction, Every, Scalar}
+use Rattle.ac_logic.specs.Patterns.{Conjunction}
 use Rattle.ac_expand.specs.declared.names.Names.{Names}
-use Rattle.ac_expand.specs.Ground.{Made, each, joined, joined_to, made, named, next_name}
+use Rattle.ac_expand.specs.Ground.{Made, each, joined, joined_to, made}
 use Rattle.ac_expand.specs.Walked.{instance_at, joined_behind}
 use Rattle.ac_expand.specs.Opened.{hidden, formula_shape, formula_child}
 
@@ -33,9 +32,3 @@ instance_formula ts d e b t x f n p q h = h ∙ λ z. (made ts false true (q z �
 
 pub instance_names : (ts d e : List Term) (b : Formula) (t x : Term) (m n : Names) → d ≡ e → t ≡ x → m ≡ (made ts false true (t ∷ d) b n).1 → m ≡ (instance_at ts e b x n).1
 instance_names ts d e b t x m n p q h = h ∙ λ z. (made ts false true (q z ∷ p z) b n).1
-
--- a shown `all` is opened at the next new name
-pub name_formula : (ts d e : List Term) (s inside : Bool) (b : Formula) (n m : Names) (t : Term) (k : ℕ) (f : Formula) → s ≡ true → d ≡ e → t ≡ Scalar (Fresh k) → k ≡ next_name inside n → m ≡ named inside n → f ≡ (made ts s inside (t ∷ d) b m).0 → f ≡ (made ts s inside e (Every b) n).0
-unfolding hidden formula_shape formula_child
-name_formula ts d e s inside b n m t k f p q r u v h =
-    h ∙ ((λ z. (made ts (p z) inside ((r ∙ ap (λ l. Scalar (Fresh l)) u) z ∷ q z) b (v z)).0) ∙ ap (λ c. (made ts c inside e (Every b) n).0) (sym p))
