@@ -4,3 +4,4 @@ pub mod Puts
 pub mod Follows
 pub mod Terms
 pub mod Instances
+pub mod Whole

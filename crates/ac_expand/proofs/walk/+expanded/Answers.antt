@@ -1,5 +1,4 @@
-use Rattle.std.proofs.Common.{◌≡◌, ◌∷◌, ◌∙◌, ap, reverse, true, false}
-use Rattle.ac_expand.specs.Ground.{made}
+use Rattle.std.proofs.Common.{◌∙◌, ap, reverse}
 use Rattle.ac_expand.specs.Walked.{instance_at}
 use Rattle.ac_expand.proofs.Instances.{formula_next, instance_formula, instance_names, names_next}
 use Rattle.ac_expand.proofs.walk.+expanded.Goals as goal
