@@ -1,5 +1,5 @@
 -- An assumed part gives its instances, and a shown part follows from its ground form.
-use Rattle.std.proofs.Common.{◌≡◌, ℕ, zero, suc, List, [], ◌∷◌, get_or, ℤ, pos, ◌≤ℤ◌, ◌+ℤ◌, ◌-ℤ◌, ◌*ℤ◌, neg_ℤ, Bool, true, false, refl, sym, subst}
+use Rattle.std.proofs.Common.{◌≡◌, ℕ, zero, suc, List, [], ◌∷◌, get_or, pos, ◌≤ℤ◌, ◌+ℤ◌, ◌-ℤ◌, ◌*ℤ◌, neg_ℤ, Bool, true, false, refl, sym, subst}
 use Rattle.ac_logic.specs.declared.formula.Term.{Term, Num, Bound}
 use Rattle.ac_logic.specs.declared.formula.ArrayTerm.{ArrayTerm}
 use Rattle.ac_logic.specs.declared.formula.Formula.{Formula, True, False, Le, Eq}

@@ -1,12 +1,12 @@
 -- One more instance is made.
-use Rattle.std.proofs.Common.{◌≡◌, ℕ, ◌+◌, ◌<◌, List, [], ◌∷◌, drop, length, get_or, Option, Some, None, true, false, sym, ◌∙◌, ap}
+use Rattle.std.proofs.Common.{◌≡◌, ℕ, ◌+◌, ◌<◌, List, ◌∷◌, drop, length, get_or, Option, Some, None, true, false, sym, ◌∙◌, ap}
 use Rattle.std.specs.Prelude.{MatchOption}
 use Rattle.std.proofs.lemmas.List.{drop_more}
 use Rattle.ac_logic.specs.declared.formula.Term.{Term}
 use Rattle.ac_logic.specs.declared.formula.Formula.{Formula}
 use Rattle.ac_logic.specs.Patterns.{Conjunction}
 use Rattle.ac_expand.specs.declared.names.Names.{Names}
-use Rattle.ac_expand.specs.Ground.{Made, each, joined, joined_to, made}
+use Rattle.ac_expand.specs.Ground.{Made, each, joined_to, made}
 use Rattle.ac_expand.specs.Walked.{instance_at, joined_behind}
 use Rattle.ac_expand.specs.Opened.{hidden, formula_shape, formula_child}
 

@@ -1,5 +1,5 @@
 -- Lists read from their end.
-use Rattle.std.proofs.Common.{◌≡◌, ℕ, ◌+◌, ◌-◌, ◌<◌, ◌≤◌, List, [], ◌∷◌, ◌++◌, reverse, length, get_or, sym, ◌∙◌, ap, subst, arith}
+use Rattle.std.proofs.Common.{◌≡◌, ℕ, ◌-◌, ◌<◌, ◌≤◌, List, [], ◌∷◌, ◌++◌, reverse, length, get_or, sym, ◌∙◌, ap, subst, arith}
 use Rattle.std.proofs.lemmas.List.{get_or-reverse, get_or_past, get_or_read, length-reverse, reverse-append, append_assoc}
 
 pub not_named : {X : Type 0} (xs : List X) (k : ℕ) (d : X) → length xs ≤ k → get_or (reverse xs) k d ≡ d

@@ -1,5 +1,5 @@
 -- A table of terms beside the list of its terms.
-use Rattle.std.proofs.Common.{◌≡◌, ℕ, suc, ◌+◌, Bool, true, false, not, List, [], ◌∷◌, ◌++◌, map, fold, reverse, refl, sym, ◌∙◌, ap, ◌||◌, if◌then◌else◌, arith}
+use Rattle.std.proofs.Common.{◌≡◌, ℕ, suc, ◌+◌, Bool, true, false, not, List, [], ◌∷◌, ◌++◌, fold, reverse, refl, sym, ◌∙◌, ap, ◌||◌, if◌then◌else◌, arith}
 use Rattle.std.specs.List.{list_any}
 use Rattle.std.proofs.lemmas.List.{map-append, append_assoc}
 use Rattle.ac_logic.specs.declared.formula.Term.{Term}
