@@ -22,7 +22,8 @@ use std::alloc::{AllocError, Global};
 /// The ground form of a condition's formula, its index terms and the number of its instances. A ground form with more
 /// instances than the limit is refused before one of them is made.
 ///
-/// The time is linear in the size of the ground form, with the parts that instances share counted in each. Parts in which
+/// Opening takes time in the size of the ground form, with the parts that instances share counted in each. Finding the index
+/// terms goes over each index whole, so indexes nested in indexes are gone over once for each that holds them. Parts in which
 /// nothing is opened are shared with the formula.
 pub fn expand(alloc: Global, condition: &Condition) -> Result<Ground, ExpandFault>
     ensures formula { IfOk result (λ g. g.formula ≡ ground_form condition.now.formula) }
