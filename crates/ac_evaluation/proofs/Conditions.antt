@@ -12,8 +12,9 @@ use Rattle.ac_run.specs.Memory.{Memory}
 use Rattle.ac_run.specs.Evaluation.{Reading, pure, ◌>>=◌, both, related, truth_of}
 use Rattle.ac_evaluation.specs.declared.stop.Stop.{Stop}
 use Rattle.ac_evaluation.specs.Opened.{hidden, cond_shape, cond_child}
-use Rattle.ac_evaluation.specs.Numbers.{made_after, numbers_of_condition, numbers_of_both, comparison}
+use Rattle.ac_evaluation.specs.Numbers.{made_after, numbers_of_condition, numbers_of_both}
 use Rattle.ac_evaluation.specs.Evaluates.{Answers, Evaluates}
+use Rattle.ac_evaluation.specs.Parts.{comparison}
 use Rattle.ac_evaluation.proofs.Evaluating.{exits, stopped, then_, both_first, both_second, both_end}
 
 -- two readings, whose numbers are compared or kept

@@ -12,7 +12,8 @@ use Rattle.ac_run.specs.Evaluation.{Reading, pure, and_then, ◌>>=◌}
 use Rattle.ac_evaluation.specs.declared.stop.Stop.{Stop}
 use Rattle.ac_evaluation.specs.declared.stop.Stop.TheVariants.{Outside, Wide, OutOfMemory}
 use Rattle.ac_evaluation.specs.Numbers.{made_after}
-use Rattle.ac_evaluation.specs.Evaluates.{AllFit, Answers, Evaluates, Makes}
+use Rattle.ac_evaluation.specs.Evaluates.{AllFit, Answers, Evaluates}
+use Rattle.ac_evaluation.specs.Parts.{Makes}
 
 joined : (t u v : List Event) (xs ys : List Cell) → u ≡ t ++ map Read xs → v ≡ u ++ map Read ys → v ≡ t ++ map Read (xs ++ ys)
 joined t u v xs ys h k = rw map-append (rw (k, h) (append_assoc t (map Read xs) (map Read ys)))

@@ -18,7 +18,8 @@ use Rattle.ac_run.specs.Declarations.{Shape}
 use Rattle.ac_run.specs.Start.{InRange, is_held, FitsItem, Fits}
 use Rattle.ac_evaluation.specs.declared.shape.Shape.{Shape as Kept}
 use Rattle.ac_evaluation.specs.Shapes.{shape_of, item_shape, AreShapes}
-use Rattle.ac_evaluation.specs.Misfit.{held_of, FitsNext, IsFirstMisfit, FitsAs, is_in_range}
+use Rattle.ac_evaluation.specs.Misfit.{held_of, FitsNext, IsFirstMisfit}
+use Rattle.ac_evaluation.specs.Parts.{FitsAs, is_in_range}
 
 zip_push : {A B : Type 0} (R : A → B → Type 0) (xs : List A) (ys : List B) (x : A) (y : B) → AllZip R xs ys → R x y → AllZip R (xs ++ x ∷ []) (ys ++ y ∷ [])
 zip_push R [] [] x y all one = (one, tt)

@@ -14,7 +14,8 @@ use Rattle.ac_run.specs.Evaluation.{Reading, pure, ◌>>=◌, value_of, indexes_
 use Rattle.ac_evaluation.specs.declared.stop.Stop.{Stop}
 use Rattle.ac_evaluation.specs.Opened.{hidden, expr_shape, expr_child}
 use Rattle.ac_evaluation.specs.Numbers.{made_after, numbers_of, numbers_of_index}
-use Rattle.ac_evaluation.specs.Evaluates.{Answers, Evaluates, Makes}
+use Rattle.ac_evaluation.specs.Evaluates.{Answers, Evaluates}
+use Rattle.ac_evaluation.specs.Parts.{Makes}
 use Rattle.ac_evaluation.proofs.Evaluating.{exits, stopped, then_, made, two_first, two_second, two_end, both_first, both_second, both_end}
 
 module _ (p : Program) (start : Start) (m : Memory) where

@@ -22,9 +22,3 @@ Evaluates r numbers (Ok x) before after = Answers r numbers (Some x) before afte
 Evaluates r numbers (Err Outside) before after = Answers r numbers None before after
 Evaluates r numbers (Err Wide) before after = ¬ AllFit numbers
 Evaluates r numbers (Err OutOfMemory) before after = Unit {0}
-
--- the number, if 128 bits hold it
-abbrev pub Makes : ℤ → Result ℤ Stop → Type 0
-Makes n (Ok made) = (made ≡ n) × FitsSigned w128 n
-Makes n (Err Wide) = ¬ FitsSigned w128 n
-Makes n (Err _) = ⊥

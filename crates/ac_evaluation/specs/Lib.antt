@@ -5,3 +5,4 @@ pub mod Stored
 pub mod Misfit
 pub mod Shapes
 pub mod Places
+pub mod Parts

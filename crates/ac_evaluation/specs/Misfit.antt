@@ -1,14 +1,11 @@
 -- The first entry of a start that doesn't fit.
-use Rattle.std.specs.Prelude.{◌≡◌, ℕ, Bool, true, ◌&&◌, IsTrue, ℤ, int_le, All, List, [], ◌∷◌, ◌++◌, length, filter, Option, Some}
+use Rattle.std.specs.Prelude.{◌≡◌, ℕ, List, [], ◌∷◌, ◌++◌, length, filter}
 use Rattle.std.specs.List.{AllZip}
 use Rattle.ac_tree.specs.declared.program.Program.{Program}
 use Rattle.ac_tree.specs.declared.program.Item.{Item}
 use Rattle.ac_run.specs.declared.start.Start.{Start}
 use Rattle.ac_run.specs.declared.start.StartCell.{StartCell}
-use Rattle.ac_run.specs.Declarations.{Shape}
-use Rattle.ac_tree.specs.declared.program.ItemKind.{ItemKind}
-use Rattle.ac_tree.specs.declared.program.ItemKind.TheVariants.{InputScalar, InputArray}
-use Rattle.ac_run.specs.Start.{count, is_held, FitsItem}
+use Rattle.ac_run.specs.Start.{is_held, FitsItem}
 
 -- the declarations that a start has numbers for
 abbrev pub held_of : List Item → List Item
@@ -32,15 +29,3 @@ module _ (p : Program) (start : Start) where
     pub place : length fitting ≡ n
     pub fit : AllZip (FitsItem p start) before fitting
     pub misfit : ¬ FitsNext after rest
-
--- What the code compares; no promise rests on it.
-
-abbrev pub is_in_range : ItemKind → ℤ → Bool
-is_in_range (InputScalar lo hi) n = int_le lo n && int_le n hi
-is_in_range (InputArray extents lo hi) n = int_le lo n && int_le n hi
-is_in_range _ n = true
-
--- an entry with its name, the count of its shape and numbers in their range
-abbrev pub FitsAs : Item → Option Shape → Option StartCell → Type 0
-FitsAs d (Some shape) (Some c) = (c.name ≡ d.name) × (length c.numbers ≡ count shape) × All (λ n. IsTrue (is_in_range d.kind n)) c.numbers
-FitsAs d _ _ = ⊥

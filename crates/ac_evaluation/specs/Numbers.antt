@@ -1,16 +1,15 @@
 -- The numbers that an evaluation makes, in its order: sums, differences, products and negations.
-use Rattle.std.specs.Prelude.{Bool, if◌then◌else◌, List, [], ◌∷◌, ◌++◌, Option, Some, None, ℤ, ◌+ℤ◌, ◌-ℤ◌, ◌*ℤ◌, neg_ℤ}
+use Rattle.std.specs.Prelude.{if◌then◌else◌, List, [], ◌∷◌, ◌++◌, Option, Some, None, ℤ, ◌+ℤ◌, ◌-ℤ◌, ◌*ℤ◌, neg_ℤ}
 use Rattle.ac_tree.specs.declared.program.Program.{Program}
 use Rattle.ac_tree.specs.declared.program.ExprKind.{ExprKind}
 use Rattle.ac_tree.specs.declared.program.ExprKind.TheVariants.{Num, Get, Read}
 use Rattle.ac_tree.specs.declared.program.Index.{Index}
-use Rattle.ac_tree.specs.declared.program.RelOp.{RelOp}
 use Rattle.ac_tree.specs.declared.program.CondKind.{CondKind}
 use Rattle.ac_tree.specs.declared.program.CondKind.TheVariants.{True, False, Rel}
 use Rattle.ac_tree.specs.Patterns.{Negative, Plus, Minus, Times, OneIndex, TwoIndexes, Negation, Conjunction, Disjunction}
 use Rattle.ac_run.specs.declared.start.Start.{Start}
 use Rattle.ac_run.specs.Memory.{Memory}
-use Rattle.ac_run.specs.Evaluation.{Reading, pure, ◌>>=◌, related, value_of, truth_of}
+use Rattle.ac_run.specs.Evaluation.{Reading, value_of, truth_of}
 use Rattle.ac_evaluation.specs.Opened.{hidden, expr_shape, expr_child, cond_shape, cond_child}
 
 -- the numbers made behind an answer; where there is none, because the last read was outside, no more are made
@@ -22,12 +21,6 @@ made_after (Some x) numbers = numbers x
 abbrev pub numbers_of_both : {A : Type 0} → List ℤ → Reading A → List ℤ → List ℤ
 numbers_of_both first r second = first ++ made_after r.1 (λ x. second)
 
-abbrev pub comparison : RelOp → Reading ℤ → Reading ℤ → Reading Bool
-comparison op r s = do
-  x ← r
-  y ← s
-  pure (related op x y)
-
 module _ (p : Program) (start : Start) (m : Memory) where
   abbrev mutual
     unfolding hidden expr_shape expr_child
@@ -35,7 +28,7 @@ module _ (p : Program) (start : Start) (m : Memory) where
     pub numbers_of : ExprKind → List ℤ
     numbers_of (Num n) = []
     numbers_of (Get x) = []
-    numbers_of (Read x at) = numbers_of_index at ++ []
+    numbers_of (Read x at) = numbers_of_index at
     numbers_of (Negative n a) = numbers_of a ++ made_after (value_of p start m a).1 (λ x. neg_ℤ x ∷ [])
     numbers_of (Plus n a k b) =
         numbers_of a ++ made_after (value_of p start m a).1 (λ x. numbers_of b ++ made_after (value_of p start m b).1 (λ y. (x +ℤ y) ∷ []))

@@ -1,6 +1,6 @@
 //! Sums, differences, products and negations within 128 bits.
 ghost use Rattle.std.specs.Prelude.{◌+ℤ◌, ◌-ℤ◌, ◌*ℤ◌, neg_ℤ};
-ghost use Rattle.ac_evaluation.specs.Evaluates.{Makes};
+ghost use Rattle.ac_evaluation.specs.Parts.{Makes};
 
 use crate::stop::Stop;
 

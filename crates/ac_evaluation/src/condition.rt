@@ -1,8 +1,9 @@
 //! Conditions, and expressions side by side.
 ghost use Rattle.std.specs.Prelude.{◌≡◌};
 ghost use Rattle.ac_run.specs.Evaluation.{both, value_of, indexes_of, related, truth_of};
-ghost use Rattle.ac_evaluation.specs.Numbers.{numbers_of, numbers_of_index, numbers_of_condition, numbers_of_both, comparison};
+ghost use Rattle.ac_evaluation.specs.Numbers.{numbers_of, numbers_of_index, numbers_of_condition, numbers_of_both};
 ghost use Rattle.ac_evaluation.specs.Evaluates.{Evaluates};
+ghost use Rattle.ac_evaluation.specs.Parts.{comparison};
 
 use crate::stop::Stop;
 use crate::store::Store;

@@ -3,7 +3,8 @@ ghost use Rattle.std.specs.Prelude.{◌≡◌, ◌↔◌, IsTrue, All, MatchOpti
 ghost use Rattle.std.specs.Option.{option_copied, option_map};
 ghost use Rattle.ac_run.specs.Start.{count, is_held, Fits};
 ghost use Rattle.ac_evaluation.specs.Shapes.{shape_of, AreShapes};
-ghost use Rattle.ac_evaluation.specs.Misfit.{is_in_range, FitsAs, IsFirstMisfit};
+ghost use Rattle.ac_evaluation.specs.Misfit.{IsFirstMisfit};
+ghost use Rattle.ac_evaluation.specs.Parts.{is_in_range, FitsAs};
 
 use crate::shape::Shape;
 use ac_run::{Start, StartCell};

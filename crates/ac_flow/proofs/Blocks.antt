@@ -15,7 +15,8 @@ use Rattle.ac_tree.specs.declared.program.StmtKind.TheVariants as stmt
 use Rattle.ac_flow.specs.Marks.{mark_at}
 use Rattle.ac_flow.specs.Cuts.{after, stmt_cuts, block_cuts, list_cuts}
 use Rattle.ac_flow.specs.Pairs.{loop_pairs, barrier_pairs, expr_pairs, cond_pairs, stmt_pairs, block_pairs, list_pairs}
-use Rattle.ac_flow.specs.Through.{goes_on, passes, block_passes, list_passes, exits, block_exits, list_exits, leaving, onward, behind, behind_block, behind_list, joined}
+use Rattle.ac_flow.specs.Through.{goes_on, passes, block_passes, list_passes, exits, block_exits, leaving, onward, behind, behind_block}
+use Rattle.ac_flow.specs.ThroughLists.{list_exits, behind_list, joined}
 
 -- lists added one after the other
 

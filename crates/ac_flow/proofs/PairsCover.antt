@@ -21,7 +21,8 @@ use Rattle.ac_tree.specs.Patterns.{Negative, Plus, Minus, Times, OneIndex, TwoIn
 use Rattle.ac_flow.specs.Opened.{hidden, expr_shape, expr_child, cond_shape, cond_child}
 use Rattle.ac_flow.specs.Points.{Begin, Do, Behind, Enter, Test, Turn, Exit, Judge, Decide, See, Point, reads_of, index_reads, block, ways_of, ways_through, IsOneWay, Next, cut_at, target_at}
 use Rattle.ac_flow.specs.Paths.{IsPointOf, first, next, LeadsTo, step, steps, Reaches}
-use Rattle.ac_flow.specs.Through.{passes, block_passes, goes_on, exits, block_exits, leaving, list_passes, list_exits, behind, onward, behind_block, behind_list}
+use Rattle.ac_flow.specs.Through.{passes, block_passes, goes_on, exits, block_exits, leaving, list_passes, behind, onward, behind_block}
+use Rattle.ac_flow.specs.ThroughLists.{list_exits, behind_list}
 use Rattle.ac_flow.proofs.Within.{In, Sub, in-left, both, same, none, equal, late, early, pairwise, where-true, each-of, from-each, none-some, some-none, false-true, some-same}
 use Rattle.ac_flow.specs.Listed.{IsListed, IsSubjectTarget}
 use Rattle.ac_flow.specs.Pairs.{each, site_pairs, expr_pairs, index_pairs, cond_pairs, barrier_pairs, loop_pairs, stmt_pairs, block_pairs, list_pairs}

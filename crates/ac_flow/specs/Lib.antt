@@ -8,3 +8,4 @@ pub mod Pairs
 pub mod Marks
 pub mod Examples
 pub mod Listed
+pub mod ThroughLists

@@ -16,7 +16,8 @@ use Rattle.ac_tree.specs.declared.program.ExprKind.TheVariants.{Num, Get, Read}
 use Rattle.ac_tree.specs.declared.program.Index.{Index}
 use Rattle.ac_tree.specs.declared.program.Program.{Program}
 use Rattle.ac_tree.specs.declared.program.Stmt.{Stmt}
-use Rattle.ac_tree.specs.declared.program.StmtKind.{StmtKind, Row_of-Stmt, end_of-Stmt, more_of-Stmt, Set, Put, If', For', While', Hand, Skip}
+use Rattle.ac_tree.specs.declared.program.StmtKind.{StmtKind, Set, Put, If', For', While', Hand, Skip}
+pub use Rattle.ac_tree.specs.Blocks.{block}
 use Rattle.ac_tree.specs.Patterns.{Negative, Plus, Minus, Times, OneIndex, TwoIndexes, Negation, Conjunction, Disjunction}
 use Rattle.ac_flow.specs.Opened.{hidden, expr_shape, expr_child, cond_shape, cond_child}
 
@@ -61,11 +62,6 @@ abbrev mutual
   pub index_reads : Index → List NodeId
   index_reads (OneIndex n a) = reads_of n a
   index_reads (TwoIndexes n a m b) = reads_of n a ++ reads_of m b
-
--- the statements of a block
-abbrev pub block : {n : _} → Row_of-Stmt n → List Stmt
-block end_of-Stmt = []
-block (more_of-Stmt node kind rest) = record { node = node; kind = kind } ∷ block rest
 
 -- What there is to do in place of a task: one list for each way on.
 

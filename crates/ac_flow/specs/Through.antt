@@ -47,14 +47,10 @@ module _ (barrier : ℕ → Bool) where
   abbrev pub leaving : NodeId → StmtKind → List Cut
   leaving n st = if barrier n.0 then After n ∷ [] else exits n st
 
-  -- the same of a list of statements
+  -- whether control comes through a list of statements
   abbrev pub list_passes : List Stmt → Bool
   list_passes [] = true
   list_passes (st ∷ rest) = goes_on st.node.id st.kind && list_passes rest
-
-  abbrev pub list_exits : List Stmt → List Cut
-  list_exits [] = []
-  list_exits (st ∷ rest) = (if list_passes rest then leaving st.node.id st.kind else []) ++ list_exits rest
 
   -- the cuts from which control comes behind a statement, by those from which it comes to it
   abbrev pub behind : List Cut → NodeId → StmtKind → List Cut
@@ -67,10 +63,3 @@ module _ (barrier : ℕ → Bool) where
   -- and those from which it comes to the end of a block
   abbrev pub behind_block : {k : _} → List Cut → Row_of-Stmt k → List Cut
   behind_block cuts row = (if block_passes row then cuts else []) ++ block_exits row
-
-  abbrev pub behind_list : List Cut → List Stmt → List Cut
-  behind_list cuts sts = (if list_passes sts then cuts else []) ++ list_exits sts
-
-  -- and those from which it comes to the end of one part or the other
-  abbrev pub joined : List Cut → List Stmt → List Stmt → List Cut
-  joined cuts yes_ no_ = (if list_passes yes_ || list_passes no_ then cuts else []) ++ (list_exits yes_ ++ list_exits no_)

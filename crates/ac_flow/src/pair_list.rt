@@ -1,7 +1,8 @@
 //! The pairs of a program.
 ghost use Rattle.std.specs.Prelude.{◌≡◌, ◌≤◌, ◌++◌, ◌∷◌, [], List, IfOk, OnOk, vec_len, take, drop};
 ghost use Rattle.ac_flow.specs.Pairs.{each, loop_pairs, site_pairs, barrier_pairs, expr_pairs, index_pairs, cond_pairs, stmt_pairs, list_pairs, pairs_of};
-ghost use Rattle.ac_flow.specs.Through.{joined, behind_list, onward};
+ghost use Rattle.ac_flow.specs.Through.{onward};
+ghost use Rattle.ac_flow.specs.ThroughLists.{joined, behind_list};
 ghost use Rattle.ac_flow.specs.Marks.{mark_at};
 
 use crate::marks::{is_marked, mark_cuts, mark_nodes};

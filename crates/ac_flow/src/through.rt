@@ -1,6 +1,7 @@
 //! How control comes through statements: whether it passes without a cut, and from which cuts inside it comes out.
 ghost use Rattle.std.specs.Prelude.{◌≡◌, [], ◌∷◌, ◌++◌, OnOk};
-ghost use Rattle.ac_flow.specs.Through.{passes, goes_on, leaving, list_passes, list_exits};
+ghost use Rattle.ac_flow.specs.Through.{passes, goes_on, leaving, list_passes};
+ghost use Rattle.ac_flow.specs.ThroughLists.{list_exits};
 ghost use Rattle.ac_flow.specs.Marks.{mark_at};
 
 use crate::marks::is_marked;

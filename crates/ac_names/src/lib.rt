@@ -1,17 +1,12 @@
 //! The names of a program in a table, and the static rules checked by it in time linear in the program.
 //!
 //! `check_static_by_table` says the same as `check_static` of ac_tree, which takes no memory and walks over all declarations
-//! for each name. `NameTable` looks a name up for any crate above.
+//! for each name: both are the one walk of ac_tree, over declarations that are looked up in either way. `NameTable` looks a
+//! name up for any crate above.
 #![tactic(auto)]
 
-mod declarations;
-mod expressions;
-mod kinds;
-mod loops;
 mod name_table;
 mod names_fault;
-mod rules;
-mod statements;
 mod static_check;
 
 pub use name_table::NameTable;

@@ -5,7 +5,7 @@ ghost use Rattle.std.specs.Option.{option_copied};
 ghost use Rattle.ac_tree.specs.StaticRules.{kind_in};
 ghost use Rattle.ac_names.specs.Places.{place_in, ArePlaces};
 
-use ac_tree::{Item, ItemKind, Name};
+use ac_tree::{DeclaredNames, Item, ItemKind, Name};
 use std::alloc::{AllocError, Global};
 use std::collections::HashMap;
 use std::marker::Model;
@@ -76,6 +76,19 @@ impl<'p> NameTable<'p> {
                 }
             }
         }
+    }
+}
+
+/// A table looks each name up at once.
+impl DeclaredNames for NameTable<'_> {
+    ghost listed = { λ items. items };
+
+    fn kind_of(&self, name: &Name) -> Option<&ItemKind> {
+        NameTable::kind_of(self, name)
+    }
+
+    fn kind_before(&self, count: usize, name: &Name) -> Option<&ItemKind> {
+        NameTable::kind_before(self, count, name)
     }
 }
 

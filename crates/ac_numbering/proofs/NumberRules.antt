@@ -15,7 +15,8 @@ use Rattle.ac_tree.specs.declared.program.Stmt.{Stmt}
 use Rattle.ac_tree.specs.declared.program.StmtKind.{StmtKind, the_lemmas as stmt_lemmas, Row_of-Stmt, end_of-Stmt, more_of-Stmt, items-the_row-Stmt}
 use Rattle.ac_tree.specs.declared.program.StmtKind.TheVariants as s
 use Rattle.ac_tree.specs.Grammar.{NameBytes}
-use Rattle.ac_tree.specs.Numbering.{at, expr_nodes, index_nodes, cond_nodes, stmt_nodes, block_nodes, list_nodes, numbered, numbered_index, numbered_expr, numbered_kind, numbered_cond, numbered_stmt, numbered_block, numbered_list}
+use Rattle.ac_tree.specs.Numbering.{at, expr_nodes, index_nodes, cond_nodes, stmt_nodes, list_nodes, numbered, numbered_index, numbered_expr, numbered_kind, numbered_cond, numbered_stmt, numbered_block, numbered_list}
+use Rattle.ac_tree.proofs.AddedNodes.{block_nodes-items}
 use Rattle.ac_numbering.specs.Numbers.{greatest, NumbersExpr, NumbersExprKind, NumbersIndex, NumbersCond, NumbersCondKind, NumbersStmt, NumbersStmtKind, NumbersBlock, whole_stmt}
 use Rattle.ac_numbering.specs.Opened.{hidden, expr_shape, expr_child, cond_shape, cond_child}
 use Rattle.ac_numbering.proofs.NumberSteps.{leaf, one, two, three, same, pair}
@@ -141,10 +142,6 @@ unfolding hidden cond_shape cond_child
 numbered-Or n a b = refl
 
 -- a row of statements is a list
-pub block_nodes-items : (n : Count) (row : Row_of-Stmt n) → block_nodes row ≡ list_nodes (items-the_row-Stmt n row)
-block_nodes-items _ end_of-Stmt = refl
-block_nodes-items _ (more_of-Stmt {n = n} m st rest) = ap (λ k. stmt_nodes st + k) (block_nodes-items n rest)
-
 pub numbered_block-items : (k : ℕ) (n : Count) (row : Row_of-Stmt n) → numbered_block k row ≡ numbered_list k (items-the_row-Stmt n row)
 numbered_block-items k _ end_of-Stmt = refl
 numbered_block-items k _ (more_of-Stmt {n = n} m st rest) = ap (λ xs. record { node = at k m; kind = numbered_stmt k st } ∷ xs) (numbered_block-items (k + stmt_nodes st) n rest)

@@ -23,14 +23,11 @@ use Rattle.ac_run.specs.Memory.{Memory, scalar, is_inside, number_at, write}
 use Rattle.ac_run.specs.Evaluation.{Reading, pure, and_then, both, read, constant_or_read, value_of, indexes_of, truth_of}
 use Rattle.ac_run.specs.Run.{Task, Do, Compare, Advance, Config, go_to, decided, written, step_statement, step_task, step_first, step, run}
 use Rattle.ac_run.specs.Violation.{Bad, Violates}
+use Rattle.ac_run.proofs.Places.{all-middle}
 
 all-append : {A : Type 0} (P : A → Type 0) (xs ys : List A) → AllByRecursion P xs → AllByRecursion P ys → AllByRecursion P (xs ++ ys)
 all-append P [] ys h k = k
 all-append P (x ∷ xs) ys h k = (h.0, all-append P xs ys h.1 k)
-
-all-middle : {A : Type 0} (P : A → Type 0) (before : List A) (x : A) (after : List A) → AllByRecursion P (before ++ x ∷ after) → P x
-all-middle P [] x after h = h.0
-all-middle P (y ∷ before) x after h = all-middle P before x after h.1
 
 longer : {A : Type 0} (xs before : List A) (x : A) → xs ++ (before ++ x ∷ []) ≡ (xs ++ before) ++ x ∷ []
 longer xs before x = sym (append_assoc xs before (x ∷ []))

@@ -1,3 +1,4 @@
+mod Places
 pub mod WritesWithin
 pub mod Judging
 pub mod Halts

@@ -27,6 +27,7 @@ use Rattle.ac_run.specs.Run.{Task, Do, Config, with_reading, written, step_state
 use Rattle.ac_run.specs.Violation.{Bad}
 use Rattle.ac_run.specs.Safety.{Policies, Safe}
 use Rattle.ac_run.specs.StraightWrites.{is_literal, is_array_above, is_write_within, WritesWithin}
+use Rattle.ac_run.proofs.Places.{all-middle}
 
 from-zero : (i : ℕ) → nat_le 0 i ≡ true
 from-zero i = grind arith
@@ -43,10 +44,6 @@ all-snoc P (y ∷ xs) x h k = (h.0, all-snoc P xs x h.1 k)
 all-map : {A B : Type 0} (P : B → Type 0) (f : A → B) (xs : List A) → AllByRecursion (λ x. P (f x)) xs → AllByRecursion P (map f xs)
 all-map P f [] h = tt
 all-map P f (x ∷ xs) h = (h.0, all-map P f xs h.1)
-
-all-middle : {A : Type 0} (P : A → Type 0) (before : List A) (x : A) (after : List A) → AllByRecursion P (before ++ x ∷ after) → P x
-all-middle P [] x after h = h.0
-all-middle P (y ∷ before) x after h = all-middle P before x after h.1
 
 nil : (es : List Event) → es ++ [] ≡ es
 nil es = search rules

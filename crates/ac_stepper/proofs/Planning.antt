@@ -15,7 +15,8 @@ use Rattle.ac_run.specs.Evaluation.{Reading}
 use Rattle.ac_run.specs.Run.{Task, Do, Compare, Advance, Config, go_to, decided, with_reading, written, step_task}
 use Rattle.ac_evaluation.specs.declared.stop.Stop.{Stop}
 use Rattle.ac_evaluation.specs.declared.stop.Stop.TheVariants.{Outside, Wide, OutOfMemory}
-use Rattle.ac_evaluation.specs.Evaluates.{AllFit, Answers, Evaluates, Makes}
+use Rattle.ac_evaluation.specs.Evaluates.{AllFit, Answers, Evaluates}
+use Rattle.ac_evaluation.specs.Parts.{Makes}
 use Rattle.ac_stepper.specs.declared.fault.StepFault.{StepFault}
 use Rattle.ac_stepper.specs.declared.fault.StepFault.TheVariants as fault
 use Rattle.ac_stepper.specs.declared.change.Change.{Change}

@@ -1,7 +1,7 @@
 //! What each task changes.
 ghost use Rattle.std.specs.Prelude.{◌≡◌, [], pos, ◌+ℤ◌, int_le};
 ghost use Rattle.ac_run.specs.Memory.{number_at};
-ghost use Rattle.ac_evaluation.specs.Evaluates.{Makes};
+ghost use Rattle.ac_evaluation.specs.Parts.{Makes};
 ghost use Rattle.ac_run.specs.Run.{Compare, Advance, step_task};
 ghost use Rattle.ac_stepper.specs.Numbers.{numbers_of_task};
 ghost use Rattle.ac_stepper.specs.Tasks.{first_of};

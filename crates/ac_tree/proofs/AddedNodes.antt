@@ -248,7 +248,7 @@ module _ {T E : Type 0} (r : Result T E) (own : ℕ) (xs ys zs : List Position) 
 
 -- The productions of statements. Blocks are lists, and rows of statements as well.
 
-block_nodes-items : (n : Count) (row : Row_of-Stmt n) → block_nodes row ≡ list_nodes (items-the_row-Stmt n row)
+pub block_nodes-items : (n : Count) (row : Row_of-Stmt n) → block_nodes row ≡ list_nodes (items-the_row-Stmt n row)
 block_nodes-items _ end_of-Stmt = refl
 block_nodes-items _ (more_of-Stmt {n = n} at x rest) = ap (λ k. stmt_nodes x + k) (block_nodes-items n rest)
 

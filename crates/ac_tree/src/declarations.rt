@@ -1,26 +1,14 @@
-//! What is declared of a name, and the rules on declarations, each of which is judged by those before it.
-ghost use Rattle.std.specs.Prelude.{◌≡◌, ◌||◌, [], length, Option};
+//! The rules on declarations, each of which is judged by those before it, and what a declaration says by itself.
+ghost use Rattle.std.specs.Prelude.{◌≡◌, ◌||◌, [], length, take, Option};
 ghost use Rattle.std.specs.List.{list_any};
 ghost use Rattle.std.specs.Option.{option_copied};
-ghost use Rattle.ac_tree.specs.StaticRules.{kind_in, extents_in, extents_of, rank, is_constant, is_input, is_scalar_var, is_empty_range, is_undeclared_extent, is_bad_size, is_bad_extent, first_fault, item_faults, items_faults};
+ghost use Rattle.ac_tree.specs.StaticRules.{extents_in, extents_of, rank, is_constant, is_input, is_scalar_var, is_empty_range, is_undeclared_extent, is_bad_size, is_bad_extent, first_fault, item_faults, items_faults};
 ghost use Rattle.ac_tree.specs.FirstFault.{fault_of};
 
-use crate::name::Name;
+use crate::declared_names::DeclaredNames;
 use crate::program::{Extent, Extents, Item, ItemKind};
 use crate::rule;
 use crate::static_rules::{StaticFault, unless};
-
-/// What the first declaration of a name says, if there is one.
-pub fn kind_of<'p>(items: &'p [Item], name: &Name) -> Option<&'p ItemKind>
-    ensures { option_copied result ≡ kind_in items.now name.now }
-{
-    for item in items {
-        if item.name == *name {
-            return Some(&item.kind);
-        }
-    }
-    None
-}
 
 /// How many indexes a name takes.
 pub fn rank_of(kind: &ItemKind) -> u8
@@ -63,31 +51,38 @@ pub fn is_var(kind: &ItemKind) -> bool
     matches!(kind, ItemKind::VarScalar)
 }
 
-pub fn check_items(items: &[Item]) -> Result<(), StaticFault>
+/// The first declaration that breaks a rule, with the least rule that it breaks.
+pub fn check_items<D: DeclaredNames>(names: &D, items: &[Item]) -> Result<(), StaticFault>
+    requires { D.listed names.now ≡ items.now }
     ensures { fault_of result ≡ first_fault (items_faults [] items.now) }
 {
-    for (i, item) in items.iter().enumerate() {
-        check_item(&items[..i], item)?;
+    for (count, item) in items.iter().enumerate() {
+        check_item(names, count, item)?;
     }
     Ok(())
 }
 
-fn check_item(before: &[Item], item: &Item) -> Result<(), StaticFault>
-    ensures { fault_of result ≡ first_fault (item_faults before.now item.now) }
+/// A declaration, by the first `count` ones, which stand before it.
+fn check_item<D: DeclaredNames>(names: &D, count: usize, item: &Item) -> Result<(), StaticFault>
+    ensures { fault_of result ≡ first_fault (item_faults (take count (D.listed names.now)) item.now) }
 {
     let node = item.node.id;
     unless(
         rule::REDECLARED_NAME,
-        kind_of(before, &item.name).is_some(),
+        names.kind_before(count, &item.name).is_some(),
         node,
     )?;
     unless(
         rule::UNDECLARED_NAME,
-        has_undeclared_extent(before, &item.kind),
+        has_undeclared_extent(names, count, &item.kind),
         node,
     )?;
     unless(rule::EMPTY_RANGE, has_empty_range(&item.kind), node)?;
-    unless(rule::BAD_EXTENT, has_bad_extent(before, &item.kind), node)
+    unless(
+        rule::BAD_EXTENT,
+        has_bad_extent(names, count, &item.kind),
+        node,
+    )
 }
 
 fn has_empty_range(kind: &ItemKind) -> bool
@@ -100,61 +95,61 @@ fn has_empty_range(kind: &ItemKind) -> bool
     }
 }
 
-fn has_undeclared_extent(before: &[Item], kind: &ItemKind) -> bool
-    ensures { result ≡ list_any (is_undeclared_extent before.now) (extents_of kind.now) }
+fn has_undeclared_extent<D: DeclaredNames>(names: &D, count: usize, kind: &ItemKind) -> bool
+    ensures { result ≡ list_any (is_undeclared_extent (take count (D.listed names.now))) (extents_of kind.now) }
 {
     match kind {
-        ItemKind::InputArray { extents, .. } => has_undeclared(before, extents),
-        ItemKind::VarArray { extents } => has_undeclared(before, extents),
+        ItemKind::InputArray { extents, .. } => has_undeclared(names, count, extents),
+        ItemKind::VarArray { extents } => has_undeclared(names, count, extents),
         _ => false,
     }
 }
 
-fn has_undeclared(before: &[Item], extents: &Extents) -> bool
-    ensures { result ≡ list_any (is_undeclared_extent before.now) (extents_in extents.now) }
+fn has_undeclared<D: DeclaredNames>(names: &D, count: usize, extents: &Extents) -> bool
+    ensures { result ≡ list_any (is_undeclared_extent (take count (D.listed names.now))) (extents_in extents.now) }
 {
     match extents {
-        Extents::One(extent) => names_undeclared(before, extent),
+        Extents::One(extent) => names_undeclared(names, count, extent),
         Extents::Two(rows, columns) => {
-            names_undeclared(before, rows) || names_undeclared(before, columns)
+            names_undeclared(names, count, rows) || names_undeclared(names, count, columns)
         }
     }
 }
 
-fn names_undeclared(before: &[Item], extent: &Extent) -> bool
-    ensures { result ≡ is_undeclared_extent before.now extent.now }
+fn names_undeclared<D: DeclaredNames>(names: &D, count: usize, extent: &Extent) -> bool
+    ensures { result ≡ is_undeclared_extent (take count (D.listed names.now)) extent.now }
 {
     match extent {
         Extent::Lit(_) => false,
-        Extent::Named(name) => kind_of(before, name).is_none(),
+        Extent::Named(name) => names.kind_before(count, name).is_none(),
     }
 }
 
-fn has_bad_extent(before: &[Item], kind: &ItemKind) -> bool
-    ensures { result ≡ list_any (is_bad_extent before.now) (extents_of kind.now) }
+fn has_bad_extent<D: DeclaredNames>(names: &D, count: usize, kind: &ItemKind) -> bool
+    ensures { result ≡ list_any (is_bad_extent (take count (D.listed names.now))) (extents_of kind.now) }
 {
     match kind {
-        ItemKind::InputArray { extents, .. } => has_bad(before, extents),
-        ItemKind::VarArray { extents } => has_bad(before, extents),
+        ItemKind::InputArray { extents, .. } => has_bad(names, count, extents),
+        ItemKind::VarArray { extents } => has_bad(names, count, extents),
         _ => false,
     }
 }
 
-fn has_bad(before: &[Item], extents: &Extents) -> bool
-    ensures { result ≡ list_any (is_bad_extent before.now) (extents_in extents.now) }
+fn has_bad<D: DeclaredNames>(names: &D, count: usize, extents: &Extents) -> bool
+    ensures { result ≡ list_any (is_bad_extent (take count (D.listed names.now))) (extents_in extents.now) }
 {
     match extents {
-        Extents::One(extent) => is_bad(before, extent),
-        Extents::Two(rows, columns) => is_bad(before, rows) || is_bad(before, columns),
+        Extents::One(extent) => is_bad(names, count, extent),
+        Extents::Two(rows, columns) => is_bad(names, count, rows) || is_bad(names, count, columns),
     }
 }
 
-fn is_bad(before: &[Item], extent: &Extent) -> bool
-    ensures { result ≡ is_bad_extent before.now extent.now }
+fn is_bad<D: DeclaredNames>(names: &D, count: usize, extent: &Extent) -> bool
+    ensures { result ≡ is_bad_extent (take count (D.listed names.now)) extent.now }
 {
     match extent {
-        Extent::Lit(count) => *count == 0,
-        Extent::Named(name) => has_bad_size(kind_of(before, name)),
+        Extent::Lit(number) => *number == 0,
+        Extent::Named(name) => has_bad_size(names.kind_before(count, name)),
     }
 }
 

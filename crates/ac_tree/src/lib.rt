@@ -6,6 +6,7 @@
 #![tactic(auto)]
 
 mod declarations;
+mod declared_names;
 mod laws;
 mod limit;
 mod loops;
@@ -21,7 +22,7 @@ mod statement_rules;
 mod static_rules;
 mod token;
 
-pub use declarations::kind_of;
+pub use declared_names::{DeclaredNames, kind_of};
 pub use laws::{
     accepted_declarations_are_good, accepted_loops_are_kept, accepted_names_are_declared,
     accepted_writes_are_to_variables, nodes_are_numbered_in_preorder,
@@ -36,5 +37,5 @@ pub use program::{
     Cond, CondKind, Expr, ExprKind, Extent, Extents, Index, Item, ItemKind, Program, RelOp, Stmt,
     StmtKind,
 };
-pub use static_rules::{StaticFault, check_static};
+pub use static_rules::{StaticFault, check_static, check_static_by};
 pub use token::{ByteKind, Keyword, Mark, Sign, Token};

@@ -3,79 +3,88 @@ ghost use Rattle.std.specs.Prelude.{◌≡◌};
 ghost use Rattle.ac_tree.specs.StaticRules.{broken, kind_in, first_fault, assignment_tests, set_tests, for_tests, stmt_faults, list_faults};
 ghost use Rattle.ac_tree.specs.FirstFault.{fault_of, loops_of};
 
-use crate::declarations::{is_const, is_given, is_var, kind_of, rank_of};
+use crate::declarations::{is_const, is_given, is_var, rank_of};
+use crate::declared_names::DeclaredNames;
 use crate::loops::{Loops, does_read, is_bound, is_variable};
 use crate::name::Name;
 use crate::name_uses::{check_cond, check_expr, check_index, check_indexes, indexes_of};
 use crate::node::NodeId;
-use crate::program::{Expr, Item, ItemKind, Stmt, StmtKind};
+use crate::program::{Expr, ItemKind, Stmt, StmtKind};
 use crate::rule;
 use crate::static_rules::{StaticFault, unless};
 
 #[cycle(stmt)]
 #[tactic(auto, using(crate::proofs::FirstFaults::stmt_fault_rules))]
-fn check_stmt(items: &[Item], loops: &Loops<'_>, stmt: &Stmt) -> Result<(), StaticFault>
-    ensures { fault_of result ≡ first_fault (stmt_faults items.now (loops_of loops.now) stmt.now.node.id stmt.now.kind) }
+fn check_stmt<D: DeclaredNames>(
+    names: &D,
+    loops: &Loops<'_>,
+    stmt: &Stmt,
+) -> Result<(), StaticFault>
+    ensures { fault_of result ≡ first_fault (stmt_faults (D.listed names.now) (loops_of loops.now) stmt.now.node.id stmt.now.kind) }
 {
     let node = stmt.node.id;
     match &stmt.kind {
         StmtKind::Set { name, value } => {
-            check_set(items, loops, node, name, 0)?;
-            check_expr(items, value)
+            check_set(names, loops, node, name, 0)?;
+            check_expr(names, value)
         }
         StmtKind::Put { name, index, value } => {
-            check_set(items, loops, node, name, indexes_of(index))?;
-            check_index(items, index)?;
-            check_expr(items, value)
+            check_set(names, loops, node, name, indexes_of(index))?;
+            check_index(names, index)?;
+            check_expr(names, value)
         }
         StmtKind::If { test, yes, no } => {
-            check_cond(items, test)?;
-            check_block(items, loops, yes.as_slice())?;
-            check_block(items, loops, no.as_slice())
+            check_cond(names, test)?;
+            check_block(names, loops, yes.as_slice())?;
+            check_block(names, loops, no.as_slice())
         }
         StmtKind::For { name, lo, hi, body } => {
-            check_for(items, loops, node, name, lo, hi)?;
-            check_expr(items, lo)?;
-            check_expr(items, hi)?;
+            check_for(names, loops, node, name, lo, hi)?;
+            check_expr(names, lo)?;
+            check_expr(names, hi)?;
             let inside = Loops::Inside {
                 name: &*name,
                 low: &*lo,
                 high: &*hi,
                 outer: &*loops,
             };
-            check_block(items, &inside, body.as_slice())
+            check_block(names, &inside, body.as_slice())
         }
         StmtKind::While { test, body } => {
-            check_cond(items, test)?;
-            check_block(items, loops, body.as_slice())
+            check_cond(names, test)?;
+            check_block(names, loops, body.as_slice())
         }
         StmtKind::Hand { name, .. } => {
-            unless(rule::UNDECLARED_NAME, kind_of(items, name).is_none(), node)
+            unless(rule::UNDECLARED_NAME, names.kind_of(name).is_none(), node)
         }
         StmtKind::Skip => Ok(()),
     }
 }
 
 #[cycle(stmt)]
-pub fn check_block(items: &[Item], loops: &Loops<'_>, block: &[Stmt]) -> Result<(), StaticFault>
-    ensures { fault_of result ≡ first_fault (list_faults items.now (loops_of loops.now) block.now) }
+pub fn check_block<D: DeclaredNames>(
+    names: &D,
+    loops: &Loops<'_>,
+    block: &[Stmt],
+) -> Result<(), StaticFault>
+    ensures { fault_of result ≡ first_fault (list_faults (D.listed names.now) (loops_of loops.now) block.now) }
 {
     for stmt in block {
-        check_stmt(items, loops, stmt)?;
+        check_stmt(names, loops, stmt)?;
     }
     Ok(())
 }
 
-fn check_set(
-    items: &[Item],
+fn check_set<D: DeclaredNames>(
+    names: &D,
     loops: &Loops<'_>,
     node: NodeId,
     name: &Name,
     indexes: u8,
 ) -> Result<(), StaticFault>
-    ensures { fault_of result ≡ first_fault (broken node (set_tests (loops_of loops.now) name.now (kind_in items.now name.now) indexes)) }
+    ensures { fault_of result ≡ first_fault (broken node (set_tests (loops_of loops.now) name.now (kind_in (D.listed names.now) name.now) indexes)) }
 {
-    match kind_of(items, name) {
+    match names.kind_of(name) {
         None => Err(StaticFault {
             rule: rule::UNDECLARED_NAME,
             node,
@@ -87,17 +96,17 @@ fn check_set(
     }
 }
 
-fn check_for(
-    items: &[Item],
+fn check_for<D: DeclaredNames>(
+    names: &D,
     loops: &Loops<'_>,
     node: NodeId,
     name: &Name,
     low: &Expr,
     high: &Expr,
 ) -> Result<(), StaticFault>
-    ensures { fault_of result ≡ first_fault (broken node (for_tests (loops_of loops.now) name.now (kind_in items.now name.now) low.now.kind high.now.kind)) }
+    ensures { fault_of result ≡ first_fault (broken node (for_tests (loops_of loops.now) name.now (kind_in (D.listed names.now) name.now) low.now.kind high.now.kind)) }
 {
-    match kind_of(items, name) {
+    match names.kind_of(name) {
         None => Err(StaticFault {
             rule: rule::UNDECLARED_NAME,
             node,

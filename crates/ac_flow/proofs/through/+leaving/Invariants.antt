@@ -1,6 +1,7 @@
 use Rattle.std.proofs.Common.{◌≡◌, List, [], ◌++◌, drop, length, if◌then◌else◌}
 use Rattle.ac_tree.specs.declared.path.Cut.{Cut}
-use Rattle.ac_flow.specs.Through.{list_passes, list_exits}
+use Rattle.ac_flow.specs.Through.{list_passes}
+use Rattle.ac_flow.specs.ThroughLists.{list_exits}
 use Rattle.ac_flow.specs.Marks.{mark_at}
 use Rattle.ac_flow.proofs.through.+leaving.Given as goal
 

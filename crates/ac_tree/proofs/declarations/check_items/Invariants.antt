@@ -3,5 +3,5 @@ use Rattle.std.proofs.Common.{◌≡◌, [], take, drop}
 use Rattle.ac_tree.specs.StaticRules.{first_fault, items_faults}
 use Rattle.ac_tree.proofs.declarations.check_items.Given as goal
 
-abbrev pub invariant-loop-i : goal.invariant-loop-i
-invariant-loop-i l = first_fault (items_faults (take l.i l.items) (drop l.i l.items)) ≡ first_fault (items_faults [] l.items)
+abbrev pub invariant-loop-count : goal.invariant-loop-count
+invariant-loop-count g l = first_fault (items_faults (take l.count l.items) (drop l.count l.items)) ≡ first_fault (items_faults [] l.items)
