@@ -4,8 +4,7 @@ ghost use Rattle.ac_logic.specs.Answer.{renewed};
 ghost use Rattle.ac_logic.specs.declared.formula.Term.{Bound};
 ghost use Rattle.ac_expand.specs.Ground.{with_terms, array_with_terms};
 
-use crate::renewal::{NewPut, NewRead, renew_one, renew_put, renew_read, renew_two};
-use ac_logic::{ArrayTerm, Term};
+use ac_logic::{ArrayTerm, NewPut, NewRead, Term, renew_one, renew_put, renew_read, renew_two};
 use ac_shared::Shared;
 use std::alloc::{AllocError, Global};
 

@@ -16,7 +16,6 @@ mod index;
 mod key;
 mod laws;
 mod names;
-mod renewal;
 mod walk;
 
 pub use answer::{ExpandFault, Ground};

@@ -6,8 +6,7 @@ ghost use Rattle.ac_expand.specs.Ground.{each, joined, made};
 
 use crate::bound::term_with;
 use crate::names::Names;
-use crate::renewal::{renew, renew_one, renew_two};
-use ac_logic::{Formula, Sym, Term};
+use ac_logic::{Formula, Sym, Term, renew, renew_one, renew_two};
 use ac_shared::Shared;
 use sqlite_items::Items;
 use std::alloc::{AllocError, Global};
