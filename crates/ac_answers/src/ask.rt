@@ -1,6 +1,6 @@
 //! What a line asks for.
 use ac_answers_language::{flow, programs, runs};
-use ac_answers_logic::{differences, formulas, linear, proof_trees};
+use ac_answers_logic::{differences, formulas, ground_forms, linear, proof_trees};
 use ac_answers_policies::policies;
 use ac_asks::{Answer, text_at};
 use serde_json::{Value, json};
@@ -35,6 +35,7 @@ fn answer_of(alloc: Global, ask: &Value) -> Answer {
         "normal" => linear::normal(alloc, ask),
         "combine" => linear::combine(alloc, ask),
         "solve" => differences::solve(alloc, ask),
+        "expand" => ground_forms::expand(alloc, ask),
         "check_proof" => proof_trees::check_proof(alloc, ask),
         "parse" => programs::parse(alloc, ask),
         "check_static" => programs::check_static(alloc, ask),

@@ -4,7 +4,7 @@ ghost use Rattle.std.specs.Prelude.{IfOk, IsTrue, length, ◌<◌, ◌^◌};
 use std::alloc::{AllocError, Global};
 
 /// The calls go down a tree by recursion, so a text whose tree may be higher is no stated ask.
-const HIGHEST: u64 = 2048;
+const HIGHEST: u64 = 16_384;
 
 /// A part of a text in brackets: how many tokens it has so far, and how high a tree in brackets inside it may be.
 #[derive(Drop)]

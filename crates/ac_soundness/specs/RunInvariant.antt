@@ -1,4 +1,5 @@
--- What each step of a run keeps. The state is the memory with the shadow of the trace; six facts hold of it, each with a name.
+-- What each step of a run keeps: six facts of the state, which is the memory with the shadow of the trace. The fields of
+-- `GoesOn` keep them, and each says which it keeps.
 use Rattle.std.specs.Prelude.{◌≡◌, ◌⊎◌, true, false, List, [], ◌∷◌, ◌++◌, Option, None, ℤ, pos, ◌+ℤ◌, ◌≤ℤ◌}
 use Rattle.ac_tree.specs.declared.path.Target.{Target}
 use Rattle.ac_tree.specs.declared.program.Program.{Program}
