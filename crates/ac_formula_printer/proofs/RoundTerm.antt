@@ -28,7 +28,8 @@ use Rattle.ac_formula_printer.specs.Printing.{text_of_sym, is_negative, is_group
 use Rattle.ac_formula_printer.specs.Range.{IsNumberInRange, IsSymInRange, IsTermInRange, IsArrayInRange}
 use Rattle.ac_formula_printer.specs.FormulaText as spells
 use Rattle.ac_formula_printer.specs.FormulaText.{Tokens, Names, one_further, place_of, number_of, short_of, TermLevel, Whole, Prod, Fac, Atom, SpellsTerm, SpellsArray}
-use Rattle.ac_formula_printer.specs.FormulaTokens.{goes_on, sign_mark, keyword_mark, first_token, Lexes}
+use Rattle.ac_tokens.specs.Runs.{goes_on}
+use Rattle.ac_formula_printer.specs.FormulaTokens.{sign_mark, keyword_mark, first_token, Lexes}
 use Rattle.ac_formula_printer.proofs.Spelling.{Edge, cut_token, cut_space, cut_sign, cut_name, cut_keyword, cut_literal, cut_bound}
 
 -- in front of tokens of what follows, the text is cut into tokens that spell the term

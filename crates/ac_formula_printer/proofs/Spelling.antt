@@ -12,10 +12,11 @@ use Rattle.ac_tree.specs.declared.token.ByteKind.TheVariants as byte_kind
 use Rattle.ac_tree.specs.Tokens.{kind_of_byte, joined, keyword_of, InName, Each, IsName}
 use Rattle.ac_formula_printer.specs.declared.mark.FormulaMark.{FormulaMark}
 use Rattle.ac_formula_printer.specs.declared.mark.FormulaMark.TheVariants as mark
-use Rattle.ac_formula_printer.specs.declared.byte_run.Run.{Run}
-use Rattle.ac_formula_printer.specs.declared.byte_run.Run.TheVariants as run
+use Rattle.ac_tokens.specs.declared.run.Run.{Run}
+use Rattle.ac_tokens.specs.declared.run.Run.TheVariants as run
 use Rattle.ac_formula_printer.specs.FormulaText.{Tokens}
-use Rattle.ac_formula_printer.specs.FormulaTokens.{goes_on, front, behind, digit_more, literal_of, word_mark, keyword_mark, sign_mark, Cutting, word, bound_name, literal, lone_sign, sign_of, signs, token_of, first_token, Lexes, nothing, token}
+use Rattle.ac_tokens.specs.Runs.{goes_on, front, behind}
+use Rattle.ac_formula_printer.specs.FormulaTokens.{digit_more, literal_of, word_mark, keyword_mark, sign_mark, Cutting, word, bound_name, literal, lone_sign, sign_of, signs, token_of, first_token, Lexes, nothing, token}
 
 -- no name, number or bound name goes on here
 abbrev pub Edge : List ℕ → Type 0

@@ -10,30 +10,9 @@ use Rattle.ac_tree.specs.Tokens.{kind_of_byte, joined, keyword_of}
 use Rattle.ac_formula_printer.specs.declared.mark.FormulaMark.{FormulaMark}
 use Rattle.ac_formula_printer.specs.declared.mark.FormulaMark.TheVariants as mark
 use Rattle.ac_tree.specs.declared.program.RelOp.TheVariants as rel
-use Rattle.ac_formula_printer.specs.declared.byte_run.Run.{Run}
-use Rattle.ac_formula_printer.specs.declared.byte_run.Run.TheVariants as run
+use Rattle.ac_tokens.specs.declared.run.Run.TheVariants as run
+use Rattle.ac_tokens.specs.Runs.{front, behind}
 use Rattle.ac_formula_printer.specs.FormulaText.{Tokens, Goal, Tree, IsTextOf, Continues}
-
--- what a run goes on with
-abbrev pub goes_on : Run → ByteKind → Bool
-goes_on run.Name Letter = true
-goes_on run.Name Digit = true
-goes_on run.Name Underscore = true
-goes_on run.Bound Letter = true
-goes_on run.Bound Digit = true
-goes_on run.Number Digit = true
-goes_on run.Blank Blank = true
-goes_on run.Blank Newline = true
-goes_on _ _ = false
-
--- the longest front of a run, and what follows it
-abbrev pub front : Run → List ℕ → List ℕ
-front r [] = []
-front r (b ∷ bytes) = if goes_on r (kind_of_byte b) then b ∷ front r bytes else []
-
-abbrev pub behind : Run → List ℕ → List ℕ
-behind r [] = []
-behind r (b ∷ bytes) = if goes_on r (kind_of_byte b) then behind r bytes else b ∷ bytes
 
 -- a literal beyond 64 bits counts as the greatest number of 64 bits: no formula has either
 abbrev pub digit_more : ℕ → ℕ → ℕ

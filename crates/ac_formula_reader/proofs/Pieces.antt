@@ -1,75 +1,28 @@
 -- The runs and tokens that the code finds are those of the definitions.
-use Rattle.std.proofs.Common.{◌≡◌, ℕ, zero, suc, ◌+◌, ◌≤◌, ◌<◌, ◌-◌, List, [], ◌∷◌, Option, Some, None, Bool, true, false, if◌then◌else◌, length, get_or, take, drop, refl, sym, ◌∙◌, ap, subst, arith, nat_eq, inl, inr}
+use Rattle.std.proofs.Common.{◌≡◌, ℕ, zero, suc, ◌+◌, ◌≤◌, ◌<◌, ◌-◌, List, [], ◌∷◌, Option, Some, None, Bool, true, false, if◌then◌else◌, length, get_or, take, drop, refl, sym, ◌∙◌, ap, subst, arith, nat_eq}
 use Rattle.std.specs.Str.{IsAscii}
-use Rattle.std.proofs.lemmas.Bool.{cases_lt}
 use Rattle.std.proofs.lemmas.Bool.Decides.{nat_tests}
 use Rattle.std.proofs.lemmas.List.{take_rest}
-use Rattle.std.proofs.lemmas.Str.Ascii.{IsAscii-nil, IsAscii-cons}
+use Rattle.std.proofs.lemmas.Str.Ascii.{IsAscii-cons}
 use Rattle.ac_tree.specs.declared.token.Keyword.{Keyword}
 use Rattle.ac_tree.specs.declared.token.Sign.{Sign}
 use Rattle.ac_tree.specs.declared.token.ByteKind.{ByteKind}
 use Rattle.ac_tree.specs.declared.token.ByteKind.TheVariants as byte_kind
-use Rattle.ac_tree.specs.Tokens.{kind_of_byte, joined, keyword_of}
+use Rattle.ac_tree.specs.Tokens.{kind_of_byte, keyword_of}
 use Rattle.ac_formula_printer.specs.declared.mark.FormulaMark.{FormulaMark}
 use Rattle.ac_formula_printer.specs.declared.mark.FormulaMark.TheVariants as mark
-use Rattle.ac_formula_printer.specs.declared.byte_run.Run.{Run}
-use Rattle.ac_formula_printer.specs.declared.byte_run.Run.TheVariants as run
-use Rattle.ac_formula_printer.specs.FormulaTokens.{goes_on, front, behind, literal_of, word_mark, sign_mark, Cutting, word, bound_name, literal, lone_sign, sign_of, signs, token_of, first_token}
-use Rattle.ac_formula_reader.specs.FormulaPieces.{IsRun, IsNoWord, joined_first}
-
-pub run_is : (r : Run) (bytes : List ℕ) (n : ℕ) → n ≤ length bytes → ((k : ℕ) → k < n → goes_on r (kind_of_byte (get_or bytes k 0)) ≡ true) →
-    (n < length bytes → goes_on r (kind_of_byte (get_or bytes n 0)) ≡ false) → IsRun r bytes n
-run_is r [] zero h all_ stop = record { inside = h; ahead = refl; after = refl }
-run_is r [] (suc n) h all_ stop = absurd (omega arith)
-run_is r (b ∷ bytes) zero h all_ stop =
-    let f = stop (omega arith) in
-    record { inside = h; ahead = ap (λ (t : Bool). if t then b ∷ front r bytes else []) f; after = ap (λ (t : Bool). if t then behind r bytes else b ∷ bytes) f }
-run_is r (b ∷ bytes) (suc n) h all_ stop =
-    let t = all_ 0 (omega arith) in
-    let i = run_is r bytes n (omega arith) (λ k j. all_ (suc k) (omega arith)) (λ j. stop (omega arith)) in
-    record {
-      inside = h;
-      ahead = ap (λ (t : Bool). if t then b ∷ front r bytes else []) t ∙ ap (λ l. b ∷ l) i.ahead;
-      after = ap (λ (t : Bool). if t then behind r bytes else b ∷ bytes) t ∙ i.after;
-    }
-
-high_is_other : (b : ℕ) → 128 ≤ b → kind_of_byte b ≡ byte_kind.Other
-unfolding kind_of_byte
-high_is_other b h = grind (arith, nat_tests)
-
-other_stops : (r : Run) → goes_on r byte_kind.Other ≡ false
-other_stops run.Name = refl
-other_stops run.Bound = refl
-other_stops run.Number = refl
-other_stops run.Blank = refl
-
-run_byte_ascii : (r : Run) (b : ℕ) → goes_on r (kind_of_byte b) ≡ true → b < 128
-run_byte_ascii r b h =
-    elim (cases_lt b 128) [
-      | inl i ↦ i
-      | inr i ↦ absurd (let e = ap (goes_on r) (high_is_other b i) ∙ other_stops r in cc)
-    ]
-
-front_ascii : (r : Run) (bytes : List ℕ) → IsAscii (front r bytes)
-front_ascii r [] = IsAscii-nil
-front_ascii r (b ∷ bytes) =
-    (elim (goes_on r (kind_of_byte b)) as (λ (t : Bool). t ≡ goes_on r (kind_of_byte b) → IsAscii (if t then b ∷ front r bytes else [])) [
-      | true ↦ λ e. IsAscii-cons b (front r bytes) (run_byte_ascii r b (sym e)) (front_ascii r bytes)
-      | false ↦ λ e. IsAscii-nil
-    ])
-    refl
-
-letter_ascii : (b : ℕ) → kind_of_byte b ≡ byte_kind.Letter → b < 128
-letter_ascii b h = run_byte_ascii run.Name b (ap (goes_on run.Name) h)
+use Rattle.ac_tokens.specs.declared.run.Run.{Run}
+use Rattle.ac_tokens.specs.declared.run.Run.TheVariants as run
+use Rattle.ac_tokens.specs.Runs.{front, behind, IsRun, joined_with}
+use Rattle.ac_tokens.proofs.Runs.{run_ascii, letter_ascii}
+use Rattle.ac_formula_printer.specs.FormulaTokens.{literal_of, word_mark, sign_mark, Cutting, word, bound_name, literal, lone_sign, sign_of, signs, token_of, first_token}
+use Rattle.ac_formula_reader.specs.FormulaPieces.{IsNoWord}
 
 pub word_ascii : (bytes : List ℕ) (n : ℕ) → 0 < length bytes → kind_of_byte (get_or bytes 0 0) ≡ byte_kind.Letter → IsRun run.Name (drop 1 bytes) n → IsAscii (take (1 + n) bytes)
 word_ascii [] n h k r = absurd (omega arith)
 word_ascii (b ∷ bytes) n h k r =
     let e : suc n ≡ 1 + n = omega arith in
-    subst (λ j. IsAscii (take j (b ∷ bytes))) e (IsAscii-cons b (take n bytes) (letter_ascii b k) (subst IsAscii r.ahead (front_ascii run.Name bytes)))
-
-pub run_ascii : (r : Run) (bytes : List ℕ) (n : ℕ) → IsRun r bytes n → IsAscii (take n bytes)
-run_ascii r bytes n i = subst IsAscii i.ahead (front_ascii r bytes)
+    subst (λ j. IsAscii (take j (b ∷ bytes))) e (IsAscii-cons b (take n bytes) (letter_ascii b k) (run_ascii run.Name bytes n tt r))
 
 cut_one_more : {A : Type 0} (b : ℕ) (bytes : List ℕ) (n : ℕ) (P : List ℕ → List ℕ → A → Type 0) (a : A) → P (b ∷ take n bytes) (drop n bytes) a → P (take (1 + n) (b ∷ bytes)) (drop (1 + n) (b ∷ bytes)) a
 cut_one_more b bytes n P a h = let e : suc n ≡ 1 + n = omega arith in subst (λ j. P (take j (b ∷ bytes)) (drop j (b ∷ bytes)) a) e h
@@ -156,22 +109,22 @@ no_word_signs byte_kind.Hash b bytes f = absurd f
 no_word_signs byte_kind.At b bytes f = absurd f
 no_word_signs _ b bytes f = refl
 
-signs_joined : (k : ByteKind) (bytes : List ℕ) (s : Sign) → joined_first k bytes ≡ Some s → (signs k bytes ≡ Some (sign_mark s, drop 1 bytes)) × (0 < length bytes)
+signs_joined : (k : ByteKind) (bytes : List ℕ) (s : Sign) → joined_with k bytes ≡ Some s → (signs k bytes ≡ Some (sign_mark s, drop 1 bytes)) × (0 < length bytes)
 signs_joined k [] s h = cc
 signs_joined k (c ∷ bytes) s h = (ap (λ o. sign_of k (c ∷ bytes) o bytes) h, omega arith)
 
-signs_alone : (k : ByteKind) (bytes : List ℕ) → joined_first k bytes ≡ None → signs k bytes ≡ lone_sign k bytes
+signs_alone : (k : ByteKind) (bytes : List ℕ) → joined_with k bytes ≡ None → signs k bytes ≡ lone_sign k bytes
 signs_alone k [] h = refl
 signs_alone k (c ∷ bytes) h = ap (λ o. sign_of k (c ∷ bytes) o bytes) h
 
-pub joined_first_is : (bytes : List ℕ) (k : ByteKind) (s : Sign) → 0 < length bytes → k ≡ kind_of_byte (get_or bytes 0 0) → IsNoWord k → joined_first k (drop 1 bytes) ≡ Some s →
+pub joined_first_is : (bytes : List ℕ) (k : ByteKind) (s : Sign) → 0 < length bytes → k ≡ kind_of_byte (get_or bytes 0 0) → IsNoWord k → joined_with k (drop 1 bytes) ≡ Some s →
     (first_token bytes ≡ Some (sign_mark s, drop 2 bytes)) × (2 ≤ length bytes)
 joined_first_is [] k s h e w j = absurd (omega arith)
 joined_first_is (b ∷ bytes) k s h e w j =
     let p = signs_joined k bytes s j in
     (ap (λ k. token_of k b bytes) (sym e) ∙ (no_word_signs k b bytes w ∙ p.0), omega (arith, p.1))
 
-pub lone_first_is : (bytes : List ℕ) (k : ByteKind) → 0 < length bytes → k ≡ kind_of_byte (get_or bytes 0 0) → IsNoWord k → joined_first k (drop 1 bytes) ≡ None →
+pub lone_first_is : (bytes : List ℕ) (k : ByteKind) → 0 < length bytes → k ≡ kind_of_byte (get_or bytes 0 0) → IsNoWord k → joined_with k (drop 1 bytes) ≡ None →
     first_token bytes ≡ lone_sign k (drop 1 bytes)
 lone_first_is [] k h e w j = absurd (omega arith)
 lone_first_is (b ∷ bytes) k h e w j = ap (λ k. token_of k b bytes) (sym e) ∙ (no_word_signs k b bytes w ∙ signs_alone k bytes j)

@@ -28,8 +28,9 @@ use Rattle.ac_formula_machine.specs.FormulaMachine.{Stack, Machine, if_some, nam
 use Rattle.ac_tree.specs.declared.program.RelOp.TheVariants as rel
 use Rattle.ac_formula_reader.proofs.Complete.{complete, right_leads, goes, Settled, SettledMark}
 use Rattle.ac_formula_reader.proofs.Sound.{AroundTerm, AroundDue, AroundFormula, AroundArray, Around, Has, After, step_has, begun_has, IsSpelledBy, sound}
-use Rattle.ac_formula_printer.specs.declared.byte_run.Run.TheVariants as run
-use Rattle.ac_formula_printer.specs.FormulaTokens.{behind, first_token, Lexes, nothing, token, IsText, NoneFollows, IsRefusedAt}
+use Rattle.ac_tokens.specs.declared.run.Run.TheVariants as run
+use Rattle.ac_tokens.specs.Runs.{behind}
+use Rattle.ac_formula_printer.specs.FormulaTokens.{first_token, Lexes, nothing, token, IsText, NoneFollows, IsRefusedAt}
 use Rattle.ac_formula_reader.specs.FormulaReached.{IsReached}
 use Rattle.ac_formula_reader.proofs.Refuse.{refused, accepted}
 

@@ -3,15 +3,16 @@ use Rattle.std.proofs.Common.{◌≡◌, ℕ, zero, suc, ◌+◌, ◌≤◌, ◌
 use Rattle.ac_formula_printer.specs.declared.mark.FormulaMark.{FormulaMark}
 use Rattle.ac_formula_machine.specs.declared.machine_state.State.{State}
 use Rattle.ac_formula_reader.specs.declared.read.Advance.{Advance}
-use Rattle.ac_formula_printer.specs.declared.byte_run.Run.TheVariants as run
+use Rattle.ac_tokens.specs.declared.run.Run.TheVariants as run
 use Rattle.ac_formula_reader.specs.declared.read.FormulaFault.{FormulaFault}
 use Rattle.ac_formula_reader.specs.declared.read.FormulaFault.TheVariants.{At, OutOfMemory}
 use Rattle.ac_formula_printer.specs.FormulaText.{Goal, Tree}
-use Rattle.ac_formula_printer.specs.FormulaTokens.{IsRefusedAt, first_token, behind}
+use Rattle.ac_tokens.specs.Runs.{behind, IsRun}
+use Rattle.ac_formula_printer.specs.FormulaTokens.{IsRefusedAt, first_token}
 use Rattle.ac_formula_reader.specs.Refusals.{IsFault}
 use Rattle.ac_formula_machine.specs.FormulaMachine.{Stack, stepped, begun, ended}
 use Rattle.ac_formula_reader.specs.FormulaReached.{IsReached}
-use Rattle.ac_formula_reader.specs.FormulaPieces.{IsRun, Advances, IsRead, IsFaultAt}
+use Rattle.ac_formula_reader.specs.FormulaPieces.{Advances, IsRead, IsFaultAt}
 use Rattle.ac_formula_reader.proofs.Reading.{reached_start, reached_more, refused_token, refused_fault, refused_end, accepted_end, refusal_excludes}
 
 -- what the reader keeps

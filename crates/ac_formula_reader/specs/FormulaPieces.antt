@@ -1,13 +1,10 @@
 -- What the functions that cut and read formula text give.
 -- No promise rests on this file: it says what the code keeps on the way.
 use Rattle.std.specs.Prelude.{◌≡◌, ℕ, ◌+◌, ◌≤◌, ◌<◌, List, [], ◌∷◌, ◌++◌, length, take, drop, Option, Some, None, Result, Ok, Err, ◌⊎◌}
-use Rattle.ac_tree.specs.declared.token.Sign.{Sign}
 use Rattle.ac_tree.specs.declared.token.ByteKind.{ByteKind}
 use Rattle.ac_tree.specs.declared.token.ByteKind.TheVariants as byte_kind
-use Rattle.ac_tree.specs.Tokens.{kind_of_byte, joined}
 use Rattle.ac_formula_printer.specs.declared.mark.FormulaMark.{FormulaMark}
-use Rattle.ac_formula_printer.specs.declared.byte_run.Run.{Run}
-use Rattle.ac_formula_printer.specs.declared.byte_run.Run.TheVariants as run
+use Rattle.ac_tokens.specs.declared.run.Run.TheVariants as run
 use Rattle.ac_formula_reader.specs.declared.tokens.Piece.{Piece}
 use Rattle.ac_formula_machine.specs.declared.machine_state.State.{State}
 use Rattle.ac_formula_reader.specs.declared.read.Advance.{Advance}
@@ -16,15 +13,10 @@ use Rattle.ac_formula_reader.specs.declared.read.Reached.TheVariants.{Stuck, Thr
 use Rattle.ac_formula_reader.specs.declared.read.FormulaFault.{FormulaFault}
 use Rattle.ac_formula_reader.specs.declared.read.FormulaFault.TheVariants.{At, OutOfMemory}
 use Rattle.ac_formula_printer.specs.FormulaText.{Tokens, Goal, Tree}
-use Rattle.ac_formula_printer.specs.FormulaTokens.{front, behind, first_token, IsText, IsRefusedAt}
+use Rattle.ac_tokens.specs.Runs.{behind}
+use Rattle.ac_formula_printer.specs.FormulaTokens.{first_token, IsText, IsRefusedAt}
 use Rattle.ac_formula_machine.specs.FormulaMachine.{Stack, stepped}
 use Rattle.ac_formula_reader.specs.FormulaReached.{IsReached}
-
--- a run takes this many bytes
-pub record IsRun (r : Run) (bytes : List ℕ) (n : ℕ) : Type 0 where
-  pub inside : n ≤ length bytes
-  pub ahead : front r bytes ≡ take n bytes
-  pub after : behind r bytes ≡ drop n bytes
 
 -- a byte of this kind begins a sign or no token
 abbrev pub IsNoWord : ByteKind → Type 0
@@ -34,11 +26,6 @@ IsNoWord byte_kind.Underscore = ⊥
 IsNoWord byte_kind.Hash = ⊥
 IsNoWord byte_kind.At = ⊥
 IsNoWord _ = Unit {0}
-
--- the sign that a byte makes with the next one
-abbrev pub joined_first : ByteKind → List ℕ → Option Sign
-joined_first k [] = None
-joined_first k (c ∷ bytes) = joined k (kind_of_byte c)
 
 -- the piece is the first token
 abbrev pub IsFirst : List ℕ → Option Piece → Type 0

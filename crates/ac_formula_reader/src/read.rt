@@ -8,11 +8,11 @@ ghost use Rattle.ac_formula_reader.specs.FormulaPieces.{IsFirst, Advances, HasRu
 
 use crate::ending::{end_formula, end_term};
 use crate::machine::step;
-use crate::tokens::{Piece, first_token, run_length};
+use crate::tokens::{Piece, first_token};
 use ac_formula_machine::{Stack, State, fresh, give_up, refuse, unbound};
-use ac_formula_printer::Run;
 use ac_logic::{Formula, Term};
 use ac_shared::Shared;
+use ac_tokens::{Run, run_length};
 use std::alloc::{AllocError, Global};
 use thiserror::Error;
 

@@ -2,10 +2,11 @@
 ghost use Rattle.std.specs.Prelude.{◌≡◌, ℕ, ◌+◌, ◌≤◌, ◌<◌, List, length, drop, take, slice_index, IsTrue, IfOk, IsAscii};
 ghost use Rattle.ac_tree.specs.declared.token.ByteKind.TheVariants.{Letter, Digit, Underscore};
 ghost use Rattle.ac_tree.specs.Tokens.{kind_of_byte, keyword_of};
-ghost use Rattle.ac_formula_printer.specs.FormulaTokens.{goes_on as goes_on_with, keyword_mark as mark_of_keyword, sign_mark as mark_of_sign, word_mark as mark_of_word, literal_of as literal_value, first_token as token_first};
-ghost use Rattle.ac_formula_reader.specs.FormulaPieces.{IsRun, IsFirst, IsNoWord, joined_first};
+ghost use Rattle.ac_formula_printer.specs.FormulaTokens.{keyword_mark as mark_of_keyword, sign_mark as mark_of_sign, word_mark as mark_of_word, literal_of as literal_value, first_token as token_first};
+ghost use Rattle.ac_formula_reader.specs.FormulaPieces.{IsFirst, IsNoWord};
 
-use ac_formula_printer::{FormulaMark, Run};
+use ac_formula_printer::FormulaMark;
+use ac_tokens::{Run, ascii_text, joined_sign, run_length};
 use ac_tree::{ByteKind, Keyword, Name, RelOp, Sign};
 use std::alloc::{AllocError, Global};
 
@@ -14,31 +15,6 @@ use std::alloc::{AllocError, Global};
 pub struct Piece {
     pub mark: FormulaMark,
     pub len: usize,
-}
-
-fn goes_on(run: Run, kind: ByteKind) -> bool
-    ensures { result ≡ goes_on_with run kind }
-{
-    match (run, kind) {
-        (Run::Name, ByteKind::Letter | ByteKind::Digit | ByteKind::Underscore) => true,
-        (Run::Bound, ByteKind::Letter | ByteKind::Digit) => true,
-        (Run::Number, ByteKind::Digit) => true,
-        (Run::Blank, ByteKind::Blank | ByteKind::Newline) => true,
-        _ => false,
-    }
-}
-
-/// How many bytes a run has at the front.
-#[tactic(auto, using(crate::proofs::Pieces::run_is))]
-pub(crate) fn run_length(run: Run, bytes: &[u8]) -> usize
-    ensures { IsRun run bytes.now result }
-{
-    for (i, byte) in bytes.iter().enumerate() {
-        if !goes_on(run, ByteKind::of(*byte)) {
-            return i;
-        }
-    }
-    bytes.len()
 }
 
 fn keyword_mark(keyword: Keyword) -> FormulaMark
@@ -80,16 +56,6 @@ fn sign_mark(sign: Sign) -> FormulaMark
         Sign::Greater => FormulaMark::Relation(RelOp::Gt),
         Sign::GreaterEqual => FormulaMark::Relation(RelOp::Ge),
         _ => FormulaMark::Foreign,
-    }
-}
-
-fn ascii_text(bytes: &[u8]) -> &str
-    requires { IsAscii bytes.now }
-    ensures { result.now ≡ bytes.now }
-{
-    match str::from_utf8(bytes) {
-        Ok(text) => text,
-        Err(_) => unreachable!(),
     }
 }
 
@@ -158,15 +124,6 @@ fn bound_name(alloc: Global, bytes: &[u8]) -> Result<Option<Piece>, AllocError>
     }))
 }
 
-fn joined_at(kind: ByteKind, bytes: &[u8]) -> Option<Sign>
-    ensures { result ≡ joined_first kind bytes.now }
-{
-    match bytes {
-        [] => None,
-        [byte, ..] => Sign::joined(kind, ByteKind::of(*byte)),
-    }
-}
-
 #[tactic(auto, using(crate::proofs::Pieces::joined_first_is, crate::proofs::Pieces::lone_first_is))]
 fn sign(kind: ByteKind, bytes: &[u8]) -> Option<Piece>
     requires within { 0 < length bytes.now }
@@ -174,7 +131,7 @@ fn sign(kind: ByteKind, bytes: &[u8]) -> Option<Piece>
     requires sign { IsNoWord kind }
     ensures { IsFirst bytes.now result }
 {
-    match (joined_at(kind, &bytes[1..]), kind) {
+    match (joined_sign(kind, &bytes[1..]), kind) {
         (Some(sign), _) => Some(Piece {
             mark: sign_mark(sign),
             len: 2,

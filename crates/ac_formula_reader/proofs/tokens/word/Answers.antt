@@ -1,5 +1,5 @@
 use Rattle.std.proofs.Common.{arith}
-use Rattle.ac_formula_printer.specs.declared.byte_run.Run.TheVariants.{Name}
+use Rattle.ac_tokens.specs.declared.run.Run.TheVariants.{Name}
 use Rattle.ac_formula_reader.proofs.Pieces.{run_rest, word_ascii, word_first}
 use Rattle.ac_formula_reader.proofs.tokens.word.Goals as goal
 
