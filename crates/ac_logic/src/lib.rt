@@ -29,5 +29,7 @@ pub use laws::{
 pub use measure::{depth, size};
 pub use opening::open_body;
 pub use readable::{is_readable, is_readable_term};
-pub use renewal::{NewPut, NewRead, renew, renew_one, renew_pair, renew_put, renew_read, renew_two};
+pub use renewal::{
+    NewPut, NewRead, renew, renew_one, renew_pair, renew_put, renew_read, renew_two,
+};
 pub use substitution::substitute;
