@@ -1,53 +1,89 @@
 //! Asks about control flow.
-use ac_asks::{Answer, list_at, text_at};
+use ac_asks::{Answer, list_at, text_at, told};
 use ac_parse::ParseFault;
 use ac_tree::{Cut, NodeId, Pair, Place, Program, Target};
 use serde_json::{Value, json};
 use std::alloc::{AllocError, Global};
 
+/// A program, and its cuts for the places of an ask.
+#[derive(Drop)]
+struct Flow {
+    program: Program,
+    cuts: Vec<Cut>,
+}
+
 /// The cuts of the places.
 pub fn cuts(alloc: Global, ask: &Value) -> Answer {
-    let Some((_, cuts)) = program_and_cuts(alloc, ask)? else {
-        return Ok(None);
+    let Some(flow) = flow_of(alloc, ask)? else {
+        return Ok(None)
     };
+    let answer = cut_list(alloc, flow.cuts.as_slice());
+    drop(flow);
+    answer
+}
+
+fn cut_list(alloc: Global, cuts: &[Cut]) -> Answer {
     let mut list = Vec::new(alloc);
-    for cut in cuts.iter() {
+    for cut in cuts {
         list.push(cut_value(alloc, *cut)?)?;
     }
-    Ok(Some(json!(in alloc; {"cuts": list})?))
+    told(alloc, "cuts", Value::Array(list))
 }
 
 /// The pairs of the subject nodes, with the cuts of the places.
 pub fn pairs(alloc: Global, ask: &Value) -> Answer {
-    let (Some((program, cuts)), Some(subject)) = (
-        program_and_cuts(alloc, ask)?,
-        list_at(ask, "subject"),
-    ) else {
-        return Ok(None);
+    let Some(flow) = flow_of(alloc, ask)? else {
+        return Ok(None)
+    };
+    let answer = pairs_with(alloc, &flow, ask);
+    drop(flow);
+    answer
+}
+
+fn pairs_with(alloc: Global, flow: &Flow, ask: &Value) -> Answer {
+    let Some(subject) = list_at(ask, "subject") else {
+        return Ok(None)
     };
     let Some(subject) = nodes_of(alloc, subject)? else {
-        return Ok(None);
+        return Ok(None)
     };
-    let pairs = ac_flow::pairs(alloc, &program, cuts.as_slice(), subject.as_slice())?;
+    let pairs = ac_flow::pairs(
+        alloc,
+        &flow.program,
+        flow.cuts.as_slice(),
+        subject.as_slice(),
+    )?;
+    pair_list(alloc, pairs.as_slice())
+}
+
+fn pair_list(alloc: Global, pairs: &[Pair]) -> Answer {
     let mut list = Vec::new(alloc);
-    for pair in pairs.iter() {
+    for pair in pairs {
         list.push(pair_value(alloc, *pair)?)?;
     }
-    Ok(Some(json!(in alloc; {"pairs": list})?))
+    told(alloc, "pairs", Value::Array(list))
 }
 
 /// The walk of a pair, with the cuts of the places.
 pub fn walk(alloc: Global, ask: &Value) -> Answer {
-    let (Some((program, cuts)), Some(pair)) = (program_and_cuts(alloc, ask)?, pair_at(ask)) else {
-        return Ok(None);
+    let Some(pair) = pair_at(ask) else {
+        return Ok(None)
     };
-    let nodes = ac_walk::walk(alloc, &program, cuts.as_slice(), &pair)?;
+    let Some(flow) = flow_of(alloc, ask)? else {
+        return Ok(None)
+    };
+    let answer = walk_of(alloc, &flow, &pair);
+    drop(flow);
+    answer
+}
+
+fn walk_of(alloc: Global, flow: &Flow, pair: &Pair) -> Answer {
+    let nodes = ac_walk::walk(alloc, &flow.program, flow.cuts.as_slice(), pair)?;
     let mut list = Vec::new(alloc);
     for node in nodes.iter() {
-        let number = node.0;
-        list.push(json!(in alloc; number)?)?;
+        list.push(Value::from(node.0))?;
     }
-    Ok(Some(json!(in alloc; {"walk": list})?))
+    told(alloc, "walk", Value::Array(list))
 }
 
 /// The pair of an ask.
@@ -84,27 +120,54 @@ fn target_of(value: &Value) -> Option<Target> {
 }
 
 /// The program of an ask, and its cuts for the places there.
-fn program_and_cuts(alloc: Global, ask: &Value) -> anyhow::Result<Option<(Program, Vec<Cut>)>> {
+fn flow_of(alloc: Global, ask: &Value) -> Result<Option<Flow>, AllocError> {
     let (Some(text), Some(places)) = (text_at(ask, "program"), list_at(ask, "places")) else {
         return Ok(None);
     };
-    let (Some(program), Some(places)) = (program(alloc, text)?, places_of(alloc, places)?) else {
-        return Ok(None);
+    let Some(program) = program(alloc, text)? else {
+        return Ok(None)
     };
-    let cuts = ac_flow::cuts(alloc, &program, places.as_slice())?;
-    Ok(Some((program, cuts)))
+    match cuts_at(alloc, &program, places) {
+        Ok(Some(cuts)) => Ok(Some(Flow { program, cuts })),
+        Ok(None) => {
+            drop(program);
+            Ok(None)
+        }
+        Err(error) => {
+            drop(program);
+            Err(error)
+        }
+    }
+}
+
+/// The cuts of a program for the places of a list.
+fn cuts_at(
+    alloc: Global,
+    program: &Program,
+    values: &[Value],
+) -> Result<Option<Vec<Cut>>, AllocError> {
+    match places_of(alloc, values)? {
+        Some(places) => Ok(Some(ac_flow::cuts(alloc, program, places.as_slice())?)),
+        None => Ok(None),
+    }
 }
 
 /// The program that a text is; none where it is none, or one that breaks a static rule.
 pub fn program(alloc: Global, text: &str) -> Result<Option<Program>, AllocError> {
     match ac_parse::parse(alloc, text.as_bytes()) {
-        Ok(program) => match ac_tree::check_static(&program) {
-            Ok(()) => Ok(Some(program)),
-            Err(_) => Ok(None),
-        },
+        Ok(program) => Ok(sound(program)),
         Err(ParseFault::OutOfMemory) => Err(AllocError),
         Err(_) => Ok(None),
     }
+}
+
+/// The program, where it breaks no static rule.
+fn sound(program: Program) -> Option<Program> {
+    if ac_tree::check_static(&program).is_ok() {
+        return Some(program);
+    }
+    drop(program);
+    None
 }
 
 fn places_of(alloc: Global, values: &[Value]) -> Result<Option<Vec<Place>>, AllocError> {
@@ -155,9 +218,10 @@ fn nodes_of(alloc: Global, values: &[Value]) -> Result<Option<Vec<NodeId>>, Allo
 }
 
 fn pair_value(alloc: Global, pair: Pair) -> Result<Value, AllocError> {
-    let cut = cut_value(alloc, pair.cut)?;
-    let target = target_value(alloc, pair.target)?;
-    json!(in alloc; [cut, target])
+    let mut list = Vec::new(alloc);
+    list.push(cut_value(alloc, pair.cut)?)?;
+    list.push(target_value(alloc, pair.target)?)?;
+    Ok(Value::Array(list))
 }
 
 fn cut_value(alloc: Global, cut: Cut) -> Result<Value, AllocError> {

@@ -1,9 +1,9 @@
 //! Asks about runs.
 use crate::flow::program;
-use ac_asks::{Answer, list_at, text_at, whole, wholes};
+use ac_asks::{Answer, list_at, text_at, told, whole, wholes};
 use ac_run::{Cell, Event, Start, StartCell};
 use ac_stepper::{Config, StartFault, StepFault, Stepped, begin_run};
-use ac_tree::Name;
+use ac_tree::{Name, Program};
 use serde_json::{Value, json};
 use sqlite_items::Items;
 use std::alloc::{AllocError, Global};
@@ -20,7 +20,7 @@ struct Stretch {
 
 /// What the steps of a run came to: how they ended, and the events of each, up to the last that had any.
 #[derive(Drop)]
-struct Told {
+struct Story {
     stretches: Vec<Stretch>,
     events: Vec<Value>,
     silent: u64,
@@ -35,15 +35,35 @@ pub fn run(alloc: Global, ask: &Value) -> Answer {
     ) else {
         return Ok(None);
     };
-    let (Some(program), Some(start)) = (program(alloc, text)?, start_of(alloc, entries)?) else {
-        return Ok(None);
+    let Some(program) = program(alloc, text)? else {
+        return Ok(None)
     };
+    let answer = run_with(alloc, &program, entries, steps);
+    drop(program);
+    answer
+}
+
+/// The run of a program from the start with these entries.
+fn run_with(alloc: Global, program: &Program, entries: &[Value], steps: u64) -> Answer {
+    let Some(start) = start_of(alloc, entries)? else {
+        return Ok(None)
+    };
+    let answer = run_from(alloc, program, &start, steps);
+    drop(start);
+    answer
+}
+
+fn run_from(alloc: Global, program: &Program, start: &Start, steps: u64) -> Answer {
     if start.cells.len() > MOST_ENTRIES {
         return Ok(None);
     }
-    match begin_run(alloc, &program, &start) {
-        Ok(mut config) => ran(alloc, &mut config, steps),
-        Err(StartFault::Fit { index }) => Ok(Some(json!(in alloc; {"fit": index})?)),
+    match begin_run(alloc, program, start) {
+        Ok(mut config) => {
+            let answer = ran(alloc, &mut config, steps);
+            drop(config);
+            answer
+        }
+        Err(StartFault::Fit { index }) => told(alloc, "fit", Value::from(index)),
         Err(StartFault::OutOfMemory) => Err(anyhow::Error::from(AllocError)),
     }
 }
@@ -108,24 +128,42 @@ fn number_of(value: &Value) -> Option<i128> {
 }
 
 fn ran(alloc: Global, config: &mut Config<'_>, steps: u64) -> Answer {
-    let mut told = Told {
+    let mut story = Story {
         stretches: Vec::new(alloc),
         events: Vec::new(alloc),
         silent: 0,
     };
-    tell(alloc, config, steps, &mut told)?;
-    let stretches = stretch_values(alloc, told.stretches.as_slice())?;
-    let events = told.events;
-    Ok(Some(json!(in alloc; {"steps": stretches, "trace": events})?))
+    match tell(alloc, config, steps, &mut story) {
+        Ok(()) => retold(alloc, story),
+        Err(error) => {
+            drop(story);
+            Err(error)
+        }
+    }
+}
+
+fn retold(alloc: Global, story: Story) -> Answer {
+    let Story {
+        stretches,
+        events,
+        silent: _,
+    } = story;
+    let steps = stretch_values(alloc, stretches.as_slice())?;
+    Ok(Some(json!(in alloc; {"steps": steps, "trace": events})?))
 }
 
 /// Makes the steps, and tells how each ended and what it added to the trace.
-fn tell(alloc: Global, config: &mut Config<'_>, steps: u64, told: &mut Told) -> anyhow::Result<()> {
+fn tell(
+    alloc: Global,
+    config: &mut Config<'_>,
+    steps: u64,
+    story: &mut Story,
+) -> anyhow::Result<()> {
     for _ in 0..steps {
         let before = config.trace().len();
         let word = word_of(config.step())?;
-        count(&mut told.stretches, word)?;
-        add_events(alloc, told, config.trace(), before)?;
+        count(&mut story.stretches, word)?;
+        add_events(alloc, story, config.trace(), before)?;
     }
     Ok(())
 }
@@ -154,19 +192,19 @@ fn count(stretches: &mut Vec<Stretch>, word: &'static str) -> Result<(), AllocEr
 /// Adds what a step added to the trace, behind an empty list for each silent step before it.
 fn add_events(
     alloc: Global,
-    told: &mut Told,
+    story: &mut Story,
     trace: &[Event],
     before: usize,
 ) -> anyhow::Result<()> {
     if trace.len() <= before {
-        told.silent = told.silent.saturating_add(1);
+        story.silent = story.silent.saturating_add(1);
         return Ok(());
     }
-    for _ in 0..told.silent {
-        told.events.push(Value::Array(Vec::new(alloc)))?;
+    for _ in 0..story.silent {
+        story.events.push(Value::Array(Vec::new(alloc)))?;
     }
-    told.silent = 0;
-    told.events.push(event_list(alloc, trace, before)?)?;
+    story.silent = 0;
+    story.events.push(event_list(alloc, trace, before)?)?;
     Ok(())
 }
 
@@ -179,32 +217,42 @@ fn event_list(alloc: Global, trace: &[Event], before: usize) -> anyhow::Result<V
 }
 
 fn event_value(alloc: Global, event: &Event) -> anyhow::Result<Value> {
+    let mut list = Vec::new(alloc);
     match event {
         Event::Read(cell) => {
-            let (name, i, j) = cell_values(alloc, cell)?;
-            Ok(json!(in alloc; ["read", name, i, j])?)
+            add_word(alloc, &mut list, "read")?;
+            add_cell(alloc, &mut list, cell)?;
         }
         Event::Write(cell, number) => {
-            let (name, i, j) = cell_values(alloc, cell)?;
-            let number = whole(alloc, *number)?;
-            Ok(json!(in alloc; ["write", name, i, j, number])?)
+            add_word(alloc, &mut list, "write")?;
+            add_cell(alloc, &mut list, cell)?;
+            list.push(whole(alloc, *number)?)?;
         }
         Event::Hand {
             name,
             role,
             contents,
         } => {
-            let numbers = wholes(alloc, contents.as_slice())?;
-            let (name, role) = (name.text(), role.text());
-            Ok(json!(in alloc; ["hand", name, role, numbers])?)
+            add_word(alloc, &mut list, "hand")?;
+            add_word(alloc, &mut list, name.text())?;
+            add_word(alloc, &mut list, role.text())?;
+            list.push(Value::Array(wholes(alloc, contents.as_slice())?))?;
         }
     }
+    Ok(Value::Array(list))
 }
 
-fn cell_values<'c>(alloc: Global, cell: &'c Cell) -> anyhow::Result<(&'c str, Value, Value)> {
-    let i = whole(alloc, cell.i)?;
-    let j = whole(alloc, cell.j)?;
-    Ok((cell.name.text(), i, j))
+fn add_word(alloc: Global, list: &mut Vec<Value>, word: &str) -> Result<(), AllocError> {
+    list.push(Value::String(String::from_str(alloc, word)?))?;
+    Ok(())
+}
+
+/// Adds the name of a cell and its two indexes.
+fn add_cell(alloc: Global, list: &mut Vec<Value>, cell: &Cell) -> anyhow::Result<()> {
+    add_word(alloc, list, cell.name.text())?;
+    list.push(whole(alloc, cell.i)?)?;
+    list.push(whole(alloc, cell.j)?)?;
+    Ok(())
 }
 
 fn stretch_values(alloc: Global, stretches: &[Stretch]) -> Result<Vec<Value>, AllocError> {

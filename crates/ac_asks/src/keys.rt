@@ -1,5 +1,6 @@
-//! What stands under the keys of an ask.
-use serde_json::Value;
+//! What stands under the keys of an ask and of an answer.
+use serde_json::{Value, json};
+use std::alloc::Global;
 
 /// The answer to an ask; none where the line is no stated ask.
 pub type Answer = anyhow::Result<Option<Value>>;
@@ -21,4 +22,9 @@ pub fn list_at<'a>(ask: &'a Value, key: &str) -> Option<&'a [Value]> {
         },
         None => None,
     }
+}
+
+/// An answer with one member.
+pub fn told(alloc: Global, key: &str, value: Value) -> Answer {
+    Ok(Some(json!(in alloc; {key: value})?))
 }

@@ -4,5 +4,5 @@
 mod keys;
 mod numbers;
 
-pub use keys::{Answer, list_at, text_at};
+pub use keys::{Answer, list_at, text_at, told};
 pub use numbers::{number_of, numbers_of, whole, wholes};

@@ -1,5 +1,5 @@
 -- A condition that is spelled is read.
-use Rattle.std.proofs.Common.{◌≡◌, ℕ, List, [], ◌∷◌, ◌++◌, Option, Some, None, Bool, true, false, refl, sym, ◌∙◌, ap, append_assoc, append-nil}
+use Rattle.std.proofs.Common.{◌≡◌, [], ◌∷◌, ◌++◌, Option, Some, None, false, refl, sym, ◌∙◌, ap, append_assoc, append-nil}
 use Rattle.ac_tree.specs.declared.node.Span.{Span}
 use Rattle.ac_tree.specs.declared.program.Cond.{Cond}
 use Rattle.ac_tree.specs.declared.program.CondKind.TheVariants as cond
@@ -11,9 +11,8 @@ use Rattle.ac_tree.specs.declared.token.Mark.TheVariants as mark
 use Rattle.ac_tree.specs.declared.token.Sign.TheVariants as sign
 use Rattle.ac_tree.specs.declared.token.Token.{Token}
 use Rattle.ac_tree.specs.Grammar as g
-use Rattle.ac_tree.specs.Grammar.{Tokens, CondLevel, Disjunction, Conjunction, Negated, Part, SpellsCond, token, keyword_at, sign_at, join, relation_sign}
+use Rattle.ac_tree.specs.Grammar.{Tokens, CondLevel, Disjunction, Conjunction, Negated, Part, SpellsCond, keyword_at, sign_at, join, relation_sign}
 use Rattle.ac_expression_reader.specs.declared.condition.Before.{Before}
-use Rattle.ac_expression_reader.specs.declared.condition.CondReading.{CondReading}
 use Rattle.ac_expression_reader.specs.declared.condition.CondState.{CondState}
 use Rattle.ac_expression_reader.specs.declared.condition.CondState.TheVariants.{Wants, Compares, Has}
 use Rattle.ac_expression_reader.specs.declared.condition.Side.{Side}
@@ -22,8 +21,8 @@ use Rattle.ac_expression_reader.specs.declared.condition.Test.{Test}
 use Rattle.ac_expression_reader.specs.declared.expression.Operand.{Operand}
 use Rattle.ac_expression_reader.specs.declared.expression.Reading.{Reading}
 use Rattle.ac_expression_reader.specs.ReadExpression as expression
-use Rattle.ac_expression_reader.specs.ReadCondition.{Stack, test, made, infixed, compared, negated, joined, added, pending, fresh, conjunct_of, reading, start, braced, comparing, wanting, having, behind, relating, relation_of, whole, step, step_at, value, value_at, runs}
-use Rattle.ac_expression_reader.specs.Steps.{taken, inside}
+use Rattle.ac_expression_reader.specs.ReadCondition.{Stack, test, infixed, compared, negated, joined, added, pending, fresh, conjunct_of, reading, start, braced, comparing, wanting, behind, relating, relation_of, whole, step, value, value_at, runs}
+use Rattle.ac_expression_reader.specs.Steps.{taken}
 use Rattle.ac_expression_reader.proofs.ExpressionComplete.{expression_reached}
 use Rattle.ac_expression_reader.proofs.ExpressionEnds.{own, closed}
 use Rattle.ac_expression_reader.proofs.Paths.{IsPath, go_on, Reaches, reached, path_runs, path_within, step_runs, inside_taken, inside_passed}

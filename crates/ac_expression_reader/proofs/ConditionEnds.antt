@@ -1,5 +1,5 @@
 -- Each state of a condition can be completed, and which tokens end it.
-use Rattle.std.proofs.Common.{◌≡◌, ℕ, List, [], ◌∷◌, ◌++◌, Option, Some, None, Bool, true, false, refl, sym, ◌∙◌, ap}
+use Rattle.std.proofs.Common.{◌≡◌, [], ◌∷◌, ◌++◌, Option, Some, None, true, refl, ◌∙◌}
 use Rattle.ac_tree.specs.declared.node.Span.{Span}
 use Rattle.ac_tree.specs.declared.program.RelOp.{RelOp}
 use Rattle.ac_tree.specs.declared.program.RelOp.TheVariants as relation
@@ -19,9 +19,9 @@ use Rattle.ac_expression_reader.specs.declared.condition.Test.{Test}
 use Rattle.ac_expression_reader.specs.declared.expression.Operand.{Operand}
 use Rattle.ac_expression_reader.specs.declared.expression.Reading.{Reading}
 use Rattle.ac_expression_reader.specs.ReadExpression as expression
-use Rattle.ac_expression_reader.specs.ReadCondition.{Stack, made, compared, added, conjunct_of, reading, comparing, wanting, having, behind, relating, relation_of, whole, step, step_at, value, value_at, runs, is_own}
-use Rattle.ac_expression_reader.specs.Steps.{taken, inside, passed}
-use Rattle.ac_expression_reader.proofs.ExpressionEnds.{nowhere, expression_ends, closed}
+use Rattle.ac_expression_reader.specs.ReadCondition.{Stack, compared, added, conjunct_of, comparing, wanting, having, behind, step, step_at, value, is_own}
+use Rattle.ac_expression_reader.specs.Steps.{inside, passed}
+use Rattle.ac_expression_reader.proofs.ExpressionEnds.{nowhere, expression_ends}
 use Rattle.ac_expression_reader.proofs.ConditionComplete.{Free, run, side_path, relation_step, right_ends}
 use Rattle.ac_expression_reader.proofs.Paths.{Reaches, reached}
 

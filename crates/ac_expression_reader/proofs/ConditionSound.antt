@@ -1,5 +1,5 @@
 -- A condition that is read is spelled so.
-use Rattle.std.proofs.Common.{◌≡◌, ℕ, List, [], ◌∷◌, ◌++◌, Option, Some, None, Bool, true, false, refl, sym, ◌∙◌, ap, subst, append_assoc, append-nil}
+use Rattle.std.proofs.Common.{◌≡◌, [], ◌∷◌, ◌++◌, Option, Some, None, refl, sym, ap, subst, append_assoc, append-nil}
 use Rattle.ac_tree.specs.declared.node.Span.{Span}
 use Rattle.ac_tree.specs.declared.program.CondKind.TheVariants as cond
 use Rattle.ac_tree.specs.declared.program.RelOp.{RelOp}
@@ -21,8 +21,8 @@ use Rattle.ac_expression_reader.specs.declared.condition.Test.{Test}
 use Rattle.ac_expression_reader.specs.declared.expression.Operand.{Operand}
 use Rattle.ac_expression_reader.specs.declared.expression.Reading.{Reading}
 use Rattle.ac_expression_reader.specs.ReadExpression as expression
-use Rattle.ac_expression_reader.specs.ReadCondition.{Stack, test, made, compared, negated, joined, added, pending, fresh, conjunct_of, reading, start, braced, comparing, wanting, having, noting, closing, behind, relating, relation_of, whole, step, step_at, value, value_at}
-use Rattle.ac_expression_reader.specs.Steps.{taken, inside}
+use Rattle.ac_expression_reader.specs.ReadCondition.{Stack, test, made, compared, negated, joined, added, pending, fresh, conjunct_of, start, comparing, wanting, having, noting, closing, behind, relating, relation_of, whole, step, step_at, value, value_at}
+use Rattle.ac_expression_reader.specs.Steps.{taken}
 use Rattle.ac_expression_reader.proofs.ExpressionSound.{◌⋯◌, Just, SpellsOperand, expression_spelled}
 use Rattle.ac_expression_reader.proofs.Paths.{IsPath, path_more, inside_cases}
 

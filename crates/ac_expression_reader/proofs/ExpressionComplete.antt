@@ -1,5 +1,5 @@
 -- An expression that is spelled is read.
-use Rattle.std.proofs.Common.{◌≡◌, ℕ, List, [], ◌∷◌, ◌++◌, Option, Some, None, Bool, true, false, refl, sym, ◌∙◌, ap, append_assoc, append-nil}
+use Rattle.std.proofs.Common.{◌≡◌, [], ◌∷◌, ◌++◌, Option, Some, None, refl, sym, ◌∙◌, ap, append_assoc, append-nil}
 use Rattle.ac_tree.specs.declared.node.Span.{Span}
 use Rattle.ac_tree.specs.declared.program.Expr.{Expr}
 use Rattle.ac_tree.specs.declared.program.ExprKind.TheVariants as expr
@@ -10,7 +10,7 @@ use Rattle.ac_tree.specs.declared.token.Mark.TheVariants as mark
 use Rattle.ac_tree.specs.declared.token.Sign.TheVariants as sign
 use Rattle.ac_tree.specs.declared.token.Token.{Token}
 use Rattle.ac_tree.specs.Grammar as g
-use Rattle.ac_tree.specs.Grammar.{Tokens, NameBytes, ExprLevel, Sum, Term, Factor, Atom, SpellsExpr, SpellsIndex, name, sign_at, join}
+use Rattle.ac_tree.specs.Grammar.{Tokens, NameBytes, ExprLevel, Sum, Term, Factor, Atom, SpellsExpr, SpellsIndex, sign_at, join}
 use Rattle.ac_expression_reader.specs.declared.expression.Adding.{Adding}
 use Rattle.ac_expression_reader.specs.declared.expression.Adding.TheVariants as adding
 use Rattle.ac_expression_reader.specs.declared.expression.Bracket.TheVariants as bracket

@@ -1,5 +1,5 @@
 -- Each state of an expression can be completed, and which tokens end it.
-use Rattle.std.proofs.Common.{◌≡◌, ℕ, List, [], ◌∷◌, ◌++◌, Option, Some, None, Bool, true, false, refl, sym, ◌∙◌, ap}
+use Rattle.std.proofs.Common.{◌≡◌, [], ◌∷◌, Some, true, refl}
 use Rattle.ac_tree.specs.declared.node.Span.{Span}
 use Rattle.ac_tree.specs.declared.program.ExprKind.TheVariants as expr
 use Rattle.ac_tree.specs.declared.token.Mark.{Mark}
@@ -15,7 +15,7 @@ use Rattle.ac_expression_reader.specs.declared.expression.Pending.{Pending}
 use Rattle.ac_expression_reader.specs.declared.expression.Reading.{Reading}
 use Rattle.ac_expression_reader.specs.declared.expression.State.{State}
 use Rattle.ac_expression_reader.specs.declared.expression.State.TheVariants.{Want, Named, Have}
-use Rattle.ac_expression_reader.specs.ReadExpression.{Stack, added, made, term_of, reading, opened, step, step_at, value, value_at, runs, is_own, is_open, wanting, having, naming}
+use Rattle.ac_expression_reader.specs.ReadExpression.{Stack, added, made, term_of, reading, opened, step, step_at, value, value_at, runs, is_own, wanting, having, naming}
 use Rattle.ac_expression_reader.proofs.Paths.{Reaches, reached}
 
 abbrev pub nowhere : Span

@@ -1,5 +1,5 @@
 -- An expression that is read is spelled so.
-use Rattle.std.proofs.Common.{◌≡◌, ℕ, List, [], ◌∷◌, ◌++◌, Option, Some, None, refl, sym, ◌∙◌, ap, subst, append_assoc, append-nil}
+use Rattle.std.proofs.Common.{◌≡◌, [], ◌∷◌, ◌++◌, Option, Some, None, refl, sym, subst, append_assoc, append-nil}
 use Rattle.ac_tree.specs.declared.node.Span.{Span}
 use Rattle.ac_tree.specs.declared.program.ExprKind.TheVariants as expr
 use Rattle.ac_tree.specs.declared.program.Index.TheVariants as index
@@ -18,7 +18,7 @@ use Rattle.ac_expression_reader.specs.declared.expression.Pending.{Pending}
 use Rattle.ac_expression_reader.specs.declared.expression.Reading.{Reading}
 use Rattle.ac_expression_reader.specs.declared.expression.State.{State}
 use Rattle.ac_expression_reader.specs.declared.expression.State.TheVariants.{Want, Named, Have}
-use Rattle.ac_expression_reader.specs.ReadExpression.{Stack, operand, made, negated, multiplied, added, pending, fresh, term_of, reading, start, opened, wanting, naming, having, signing, closing, close_paren, close_index, next_index, step, step_at, value, value_at, runs}
+use Rattle.ac_expression_reader.specs.ReadExpression.{Stack, operand, made, negated, multiplied, added, pending, fresh, term_of, start, opened, wanting, naming, having, signing, closing, close_paren, close_index, next_index, step, step_at, value, value_at}
 use Rattle.ac_expression_reader.proofs.Paths.{IsPath}
 
 -- this text, then that

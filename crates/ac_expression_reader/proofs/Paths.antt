@@ -1,5 +1,5 @@
 -- What holds of every machine that reads tokens by steps, and of one machine inside another.
-use Rattle.std.proofs.Common.{◌≡◌, Bool, true, false, List, [], ◌∷◌, ◌++◌, Option, Some, None, refl, sym, ◌∙◌, ap}
+use Rattle.std.proofs.Common.{◌≡◌, Bool, true, false, [], ◌∷◌, ◌++◌, Option, Some, None, refl, sym, ◌∙◌, ap}
 use Rattle.ac_tree.specs.declared.token.Token.{Token}
 use Rattle.ac_tree.specs.Grammar.{Tokens}
 use Rattle.ac_expression_reader.specs.Steps.{runs, taken, passed, inside}

@@ -1,6 +1,6 @@
 -- Reading an expression token by token, with a stack of open brackets.
 -- No promise rests on this file: it says what the code keeps on the way.
-use Rattle.std.specs.Prelude.{ℕ, List, [], ◌∷◌, Option, Some, None, Bool, true, false}
+use Rattle.std.specs.Prelude.{List, [], ◌∷◌, Option, Some, None, Bool, true, false}
 use Rattle.ac_tree.specs.declared.node.Span.{Span}
 use Rattle.ac_tree.specs.declared.program.Expr.{Expr}
 use Rattle.ac_tree.specs.declared.program.ExprKind.{ExprKind}

@@ -3,8 +3,10 @@ ghost use Rattle.ac_expression_reader.specs.ReadExpression as expression;
 ghost use Rattle.ac_expression_reader.specs.Steps.{taken, passed};
 ghost use Rattle.ac_expression_reader.specs.ReadCondition.{negated, joined, added, fresh, conjunct_of, compared, part_comes, closing, wanting, having, noting, comparing, relating, relation_of as relation_of_mark, behind as behind_side, step as step_of, step_at, value as value_of, value_at, whole, is_own as is_own_mark, start as start_of, made as test_of};
 
+use crate::children::box_two;
 use crate::expression;
 use crate::expression::{Operand, Reading, join, unnumbered};
+use crate::refusal::{dismiss, give_up, refuse};
 use crate::stack::Stack;
 use ac_tree::{Cond, CondKind, Keyword, Mark, RelOp, Sign, Span, Token};
 use sqlite_items::Boxed;
@@ -78,8 +80,7 @@ fn conjoin(alloc: Global, and: Option<Test>, x: Test) -> Result<Test, AllocError
 {
     let Some(left) = and else { return Ok(x) };
     let span = join(left.span, x.span);
-    let left = Boxed::new(alloc, left.cond)?;
-    let right = Boxed::new(alloc, x.cond)?;
+    let (left, right) = box_two(alloc, left.cond, x.cond)?;
     Ok(made(span, CondKind::And(left, right)))
 }
 
@@ -88,8 +89,7 @@ fn add(alloc: Global, or: Option<Test>, x: Test) -> Result<Test, AllocError>
 {
     let Some(left) = or else { return Ok(x) };
     let span = join(left.span, x.span);
-    let left = Boxed::new(alloc, left.cond)?;
-    let right = Boxed::new(alloc, x.cond)?;
+    let (left, right) = box_two(alloc, left.cond, x.cond)?;
     Ok(made(span, CondKind::Or(left, right)))
 }
 
@@ -104,10 +104,7 @@ fn conjunct(
 {
     match negate(alloc, not, x) {
         Ok(x) => conjoin(alloc, and, x),
-        Err(error) => {
-            drop(and);
-            Err(error)
-        }
+        Err(error) => give_up(and, error),
     }
 }
 
@@ -126,10 +123,7 @@ fn take_part(
             stack,
             state: CondState::Has(or, x),
         }),
-        Err(error) => {
-            drop(or);
-            Err(error)
-        }
+        Err(error) => give_up((stack, or), error),
     }
 }
 
@@ -159,11 +153,13 @@ fn open(stack: Stack<Braced>, at: Span, before: Before) -> Result<CondReading, A
     ensures { IfOk result (λ r. r ≡ record { stack = record { at = at; before = before } ∷ stack; state = CondState.Wants fresh }) }
 {
     let mut stack = stack;
-    stack.push(Braced { at, before })?;
-    Ok(CondReading {
-        stack,
-        state: CondState::Wants(nothing()),
-    })
+    match stack.push(Braced { at, before }) {
+        Ok(()) => Ok(CondReading {
+            stack,
+            state: CondState::Wants(nothing()),
+        }),
+        Err(error) => give_up(stack, error),
+    }
 }
 
 fn close(
@@ -176,7 +172,7 @@ fn close(
 {
     let mut stack = stack;
     match stack.pop() {
-        None => Ok(None),
+        None => refuse((stack, x)),
         Some(braced) => {
             let x = Test {
                 span: join(braced.at, at),
@@ -184,6 +180,16 @@ fn close(
             };
             Ok(Some(take_part(alloc, stack, braced.before, x)?))
         }
+    }
+}
+
+/// The state before a part, behind `or` or `and`.
+fn wants(stack: Stack<Braced>, or: Option<Test>, and: Option<Test>) -> CondReading
+    ensures { result ≡ record { stack = stack; state = CondState.Wants (record { or = or; and = and; not = None }) } }
+{
+    CondReading {
+        stack,
+        state: CondState::Wants(Before { or, and, not: None }),
     }
 }
 
@@ -198,36 +204,16 @@ fn step_has(
     ensures { IfOk result (λ r. r ≡ having stack or x token.now.span token.now.mark) }
 {
     match &token.mark {
-        Mark::Keyword(Keyword::Or) => {
-            let or = Some(add(alloc, or, x)?);
-            Ok(Some(CondReading {
-                stack,
-                state: CondState::Wants(Before {
-                    or,
-                    and: None,
-                    not: None,
-                }),
-            }))
-        }
-        Mark::Keyword(Keyword::And) => {
-            let before = Before {
-                or,
-                and: Some(x),
-                not: None,
-            };
-            Ok(Some(CondReading {
-                stack,
-                state: CondState::Wants(before),
-            }))
-        }
-        Mark::Sign(Sign::CloseBrace) => {
-            let x = add(alloc, or, x)?;
-            close(alloc, stack, token.span, x)
-        }
-        _ => {
-            drop(or);
-            Ok(None)
-        }
+        Mark::Keyword(Keyword::Or) => match add(alloc, or, x) {
+            Ok(x) => Ok(Some(wants(stack, Some(x), None))),
+            Err(error) => give_up(stack, error),
+        },
+        Mark::Keyword(Keyword::And) => Ok(Some(wants(stack, or, Some(x)))),
+        Mark::Sign(Sign::CloseBrace) => match add(alloc, or, x) {
+            Ok(x) => close(alloc, stack, token.span, x),
+            Err(error) => give_up(stack, error),
+        },
+        _ => refuse((stack, or, x)),
     }
 }
 
@@ -244,11 +230,7 @@ fn step_not(stack: Stack<Braced>, before: Before, at: Span) -> Option<CondReadin
                 not: Some(at),
             }),
         }),
-        Some(_) => {
-            drop(or);
-            drop(and);
-            None
-        }
+        Some(_) => dismiss((stack, or, and)),
     }
 }
 
@@ -266,14 +248,8 @@ fn begin_side(
             stack,
             state: CondState::Compares(before, Side::Left, reading),
         })),
-        Ok(None) => {
-            drop(before);
-            Ok(None)
-        }
-        Err(error) => {
-            drop(before);
-            Err(error)
-        }
+        Ok(None) => refuse((stack, before)),
+        Err(error) => give_up((stack, before), error),
     }
 }
 
@@ -328,8 +304,7 @@ fn compare(
     ensures { IfOk result (λ r. r ≡ compared relation left right) }
 {
     let span = join(left.span, right.span);
-    let left = Boxed::new(alloc, left.expr)?;
-    let right = Boxed::new(alloc, right.expr)?;
+    let (left, right) = box_two(alloc, left.expr, right.expr)?;
     Ok(made(span, CondKind::Rel(relation, left, right)))
 }
 
@@ -346,10 +321,7 @@ fn step_compared(
     let Before { or, and, not } = before;
     match conjunct(alloc, and, not, x) {
         Ok(x) => step_has(alloc, stack, or, x, token),
-        Err(error) => {
-            drop(or);
-            Err(error)
-        }
+        Err(error) => give_up((stack, or), error),
     }
 }
 
@@ -364,10 +336,7 @@ fn relate(
     ensures { result ≡ relating stack before left relation }
 {
     match relation {
-        None => {
-            drop(before);
-            None
-        }
+        None => dismiss((stack, before, left)),
         Some(relation) => {
             let side = Side::Right(relation, left);
             Some(CondReading {
@@ -391,15 +360,10 @@ fn behind(
 {
     match side {
         Side::Left => Ok(relate(alloc, stack, before, x, relation_of(&token.mark))),
-        Side::Right(relation, left) => {
-            match compare(alloc, relation, left, x) {
-                Ok(x) => step_compared(alloc, stack, before, x, token),
-                Err(error) => {
-                    drop(before);
-                    Err(error)
-                }
-            }
-        }
+        Side::Right(relation, left) => match compare(alloc, relation, left, x) {
+            Ok(x) => step_compared(alloc, stack, before, x, token),
+            Err(error) => give_up((stack, before), error),
+        },
     }
 }
 
@@ -419,16 +383,8 @@ fn step_within(
             stack,
             state: CondState::Compares(before, side, reading),
         })),
-        Ok(None) => {
-            drop(before);
-            drop(side);
-            Ok(None)
-        }
-        Err(error) => {
-            drop(before);
-            drop(side);
-            Err(error)
-        }
+        Ok(None) => refuse((stack, before, side)),
+        Err(error) => give_up((stack, before, side), error),
     }
 }
 
@@ -445,16 +401,8 @@ fn step_past(
 {
     match expression::finish(alloc, reading) {
         Ok(Some(x)) => behind(alloc, stack, before, side, x, token),
-        Ok(None) => {
-            drop(before);
-            drop(side);
-            Ok(None)
-        }
-        Err(error) => {
-            drop(before);
-            drop(side);
-            Err(error)
-        }
+        Ok(None) => refuse((stack, before, side)),
+        Err(error) => give_up((stack, before, side), error),
     }
 }
 
@@ -501,13 +449,30 @@ fn end_compared(alloc: Global, before: Before, x: Test) -> Result<Test, AllocErr
     let Before { or, and, not } = before;
     match conjunct(alloc, and, not, x) {
         Ok(x) => add(alloc, or, x),
-        Err(error) => {
-            drop(or);
-            Err(error)
-        }
+        Err(error) => give_up(or, error),
     }
 }
 
+/// The whole condition, if its comparison has a right side.
+fn finish_right(
+    alloc: Global,
+    before: Before,
+    relation: RelOp,
+    left: Operand,
+    right: Option<Operand>,
+) -> Result<Option<Test>, AllocError>
+    ensures { IfOk result (λ r. r ≡ whole before (Side.Right relation left) right) }
+{
+    let Some(right) = right else {
+        return refuse((before, left))
+    };
+    match compare(alloc, relation, left, right) {
+        Ok(x) => Ok(Some(end_compared(alloc, before, x)?)),
+        Err(error) => give_up(before, error),
+    }
+}
+
+/// The whole condition that ends with a side of a comparison.
 fn finish_side(
     alloc: Global,
     before: Before,
@@ -516,21 +481,9 @@ fn finish_side(
 ) -> Result<Option<Test>, AllocError>
     ensures { IfOk result (λ r. r ≡ whole before side x) }
 {
-    let Side::Right(relation, left) = side else {
-        drop(before);
-        drop(x);
-        return Ok(None)
-    };
-    let Some(x) = x else {
-        drop(before);
-        return Ok(None)
-    };
-    match compare(alloc, relation, left, x) {
-        Ok(x) => Ok(Some(end_compared(alloc, before, x)?)),
-        Err(error) => {
-            drop(before);
-            Err(error)
-        }
+    match side {
+        Side::Right(relation, left) => finish_right(alloc, before, relation, left, x),
+        other => refuse((before, other, x)),
     }
 }
 
@@ -539,17 +492,10 @@ fn end(alloc: Global, state: CondState) -> Result<Option<Test>, AllocError>
     ensures { IfOk result (λ r. r ≡ value_at [] state) }
 {
     match state {
-        CondState::Wants(before) => {
-            drop(before);
-            Ok(None)
-        }
+        CondState::Wants(before) => refuse(before),
         CondState::Compares(before, side, reading) => match expression::finish(alloc, reading) {
             Ok(x) => finish_side(alloc, before, side, x),
-            Err(error) => {
-                drop(before);
-                drop(side);
-                Err(error)
-            }
+            Err(error) => give_up((before, side), error),
         },
         CondState::Has(or, x) => Ok(Some(add(alloc, or, x)?)),
     }
@@ -560,12 +506,12 @@ pub fn finish(alloc: Global, reading: CondReading) -> Result<Option<Test>, Alloc
     ensures { IfOk result (λ r. r ≡ value_of reading) }
 {
     let CondReading { stack, state } = reading;
-    let whole = end(alloc, state)?;
     if !stack.is_empty() {
-        drop(whole);
+        drop((stack, state));
         return Ok(None);
     }
-    Ok(whole)
+    drop(stack);
+    end(alloc, state)
 }
 
 /// Whether the token is the condition's own, or belongs to the statement.

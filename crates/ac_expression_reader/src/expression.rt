@@ -4,6 +4,8 @@ ghost use Rattle.ac_expression_reader.specs.ReadExpression.{negated, multiplied,
 ghost use Rattle.ac_tree.specs.declared.program.ExprKind.TheVariants as kind;
 ghost use Rattle.ac_tree.specs.declared.program.Index.TheVariants as index;
 
+use crate::children::box_two;
+use crate::refusal::{dismiss, give_up, refuse};
 use crate::stack::Stack;
 use ac_tree::{Expr, ExprKind, Index, Mark, Name, Node, NodeId, Sign, Span, Token};
 use sqlite_items::Boxed;
@@ -106,8 +108,7 @@ fn multiply(alloc: Global, product: Option<Operand>, x: Operand) -> Result<Opera
 {
     let Some(left) = product else { return Ok(x) };
     let span = join(left.span, x.span);
-    let left = Boxed::new(alloc, left.expr)?;
-    let right = Boxed::new(alloc, x.expr)?;
+    let (left, right) = box_two(alloc, left.expr, x.expr)?;
     Ok(made(span, ExprKind::Mul(left, right)))
 }
 
@@ -118,14 +119,12 @@ fn add(alloc: Global, sum: Adding, x: Operand) -> Result<Operand, AllocError>
         Adding::Nothing => Ok(x),
         Adding::Plus(left) => {
             let span = join(left.span, x.span);
-            let left = Boxed::new(alloc, left.expr)?;
-            let right = Boxed::new(alloc, x.expr)?;
+            let (left, right) = box_two(alloc, left.expr, x.expr)?;
             Ok(made(span, ExprKind::Add(left, right)))
         }
         Adding::Minus(left) => {
             let span = join(left.span, x.span);
-            let left = Boxed::new(alloc, left.expr)?;
-            let right = Boxed::new(alloc, x.expr)?;
+            let (left, right) = box_two(alloc, left.expr, x.expr)?;
             Ok(made(span, ExprKind::Sub(left, right)))
         }
     }
@@ -142,10 +141,7 @@ fn term(
 {
     match negate(alloc, minus, x) {
         Ok(x) => multiply(alloc, product, x),
-        Err(error) => {
-            drop(product);
-            Err(error)
-        }
+        Err(error) => give_up(product, error),
     }
 }
 
@@ -168,10 +164,7 @@ fn take_atom(
             stack,
             state: State::Have(sum, x),
         }),
-        Err(error) => {
-            drop(sum);
-            Err(error)
-        }
+        Err(error) => give_up((stack, sum), error),
     }
 }
 
@@ -201,11 +194,13 @@ fn open(stack: Stack<Opened>, bracket: Bracket, before: Pending) -> Result<Readi
     ensures { IfOk result (λ r. r ≡ reading_of (record { bracket = bracket; before = before } ∷ stack) (State.Want fresh)) }
 {
     let mut stack = stack;
-    stack.push(Opened { bracket, before })?;
-    Ok(Reading {
-        stack,
-        state: State::Want(nothing()),
-    })
+    match stack.push(Opened { bracket, before }) {
+        Ok(()) => Ok(Reading {
+            stack,
+            state: State::Want(nothing()),
+        }),
+        Err(error) => give_up(stack, error),
+    }
 }
 
 fn close_parenthesis(
@@ -226,11 +221,7 @@ fn close_parenthesis(
             };
             Ok(Some(take_atom(alloc, stack, before, x)?))
         }
-        other => {
-            drop(other);
-            drop(before);
-            Ok(None)
-        }
+        other => refuse((stack, other, before, x)),
     }
 }
 
@@ -245,16 +236,10 @@ fn close_bracket(
     ensures { IfOk result (λ r. r ≡ close_index stack bracket before close x) }
 {
     match bracket {
-        Bracket::Parenthesis(_) => {
-            drop(before);
-            Ok(None)
-        }
+        Bracket::Parenthesis(_) => refuse((stack, before, x)),
         Bracket::First(name, start) => match read_one(alloc, name, join(start, close), x) {
             Ok(read) => Ok(Some(take_atom(alloc, stack, before, read)?)),
-            Err(error) => {
-                drop(before);
-                Err(error)
-            }
+            Err(error) => give_up((stack, before), error),
         },
         Bracket::Second(name, start, first) => match read_two(
             alloc,
@@ -264,10 +249,7 @@ fn close_bracket(
             x,
         ) {
             Ok(read) => Ok(Some(take_atom(alloc, stack, before, read)?)),
-            Err(error) => {
-                drop(before);
-                Err(error)
-            }
+            Err(error) => give_up((stack, before), error),
         },
     }
 }
@@ -275,8 +257,10 @@ fn close_bracket(
 fn read_one(alloc: Global, name: Name, span: Span, x: Operand) -> Result<Operand, AllocError>
     ensures { IfOk result (λ r. r ≡ operand_of span (kind.Read name (index.One x.expr))) }
 {
-    let index = Index::One(Boxed::new(alloc, x.expr)?);
-    Ok(made(span, ExprKind::Read(name, index)))
+    match Boxed::new(alloc, x.expr) {
+        Ok(index) => Ok(made(span, ExprKind::Read(name, Index::One(index)))),
+        Err(error) => give_up(name, error),
+    }
 }
 
 fn read_two(
@@ -288,9 +272,10 @@ fn read_two(
 ) -> Result<Operand, AllocError>
     ensures { IfOk result (λ r. r ≡ operand_of span (kind.Read name (index.Two first x.expr))) }
 {
-    let first = Boxed::new(alloc, first)?;
-    let second = Boxed::new(alloc, x.expr)?;
-    Ok(made(span, ExprKind::Read(name, Index::Two(first, second))))
+    match box_two(alloc, first, x.expr) {
+        Ok((first, second)) => Ok(made(span, ExprKind::Read(name, Index::Two(first, second)))),
+        Err(error) => give_up(name, error),
+    }
 }
 
 fn open_second(
@@ -308,11 +293,7 @@ fn open_second(
             Bracket::Second(name, start, x.expr),
             before,
         )?)),
-        other => {
-            drop(other);
-            drop(before);
-            Ok(None)
-        }
+        other => refuse((stack, other, before, x)),
     }
 }
 
@@ -328,7 +309,7 @@ fn close(
 {
     let mut stack = stack;
     match stack.pop() {
-        None => Ok(None),
+        None => refuse((stack, x)),
         Some(opened) => match sign {
             Sign::CloseParen => close_parenthesis(
                 alloc,
@@ -344,6 +325,20 @@ fn close(
     }
 }
 
+/// The state before an atom, behind a sign.
+fn wants(stack: Stack<Opened>, sum: Adding, product: Option<Operand>) -> Reading
+    ensures { result ≡ reading_of stack (State.Want (record { sum = sum; product = product; minus = None })) }
+{
+    Reading {
+        stack,
+        state: State::Want(Pending {
+            sum,
+            product,
+            minus: None,
+        }),
+    }
+}
+
 /// A token behind a term.
 fn step_have(
     alloc: Global,
@@ -355,48 +350,23 @@ fn step_have(
     ensures { IfOk result (λ r. r ≡ having stack sum x token.now.span token.now.mark) }
 {
     let Mark::Sign(sign) = &token.mark else {
-        drop(sum);
-        return Ok(None)
+        return refuse((stack, sum, x))
     };
     match *sign {
-        Sign::Plus => {
-            let sum = Adding::Plus(add(alloc, sum, x)?);
-            Ok(Some(Reading {
-                stack,
-                state: State::Want(Pending {
-                    sum,
-                    product: None,
-                    minus: None,
-                }),
-            }))
-        }
-        Sign::Minus => {
-            let sum = Adding::Minus(add(alloc, sum, x)?);
-            Ok(Some(Reading {
-                stack,
-                state: State::Want(Pending {
-                    sum,
-                    product: None,
-                    minus: None,
-                }),
-            }))
-        }
-        Sign::Star => Ok(Some(Reading {
-            stack,
-            state: State::Want(Pending {
-                sum,
-                product: Some(x),
-                minus: None,
-            }),
-        })),
-        Sign::CloseParen | Sign::CloseBracket | Sign::Comma => {
-            let x = add(alloc, sum, x)?;
-            close(alloc, stack, *sign, token.span, x)
-        }
-        _ => {
-            drop(sum);
-            Ok(None)
-        }
+        Sign::Plus => match add(alloc, sum, x) {
+            Ok(x) => Ok(Some(wants(stack, Adding::Plus(x), None))),
+            Err(error) => give_up(stack, error),
+        },
+        Sign::Minus => match add(alloc, sum, x) {
+            Ok(x) => Ok(Some(wants(stack, Adding::Minus(x), None))),
+            Err(error) => give_up(stack, error),
+        },
+        Sign::Star => Ok(Some(wants(stack, sum, Some(x)))),
+        Sign::CloseParen | Sign::CloseBracket | Sign::Comma => match add(alloc, sum, x) {
+            Ok(x) => close(alloc, stack, *sign, token.span, x),
+            Err(error) => give_up(stack, error),
+        },
+        _ => refuse((stack, sum, x)),
     }
 }
 
@@ -417,11 +387,7 @@ fn step_minus(stack: Stack<Opened>, before: Pending, at: Span) -> Option<Reading
                 minus: Some(at),
             }),
         }),
-        Some(_) => {
-            drop(sum);
-            drop(product);
-            None
-        }
+        Some(_) => dismiss((stack, sum, product)),
     }
 }
 
@@ -444,10 +410,7 @@ pub fn step_want(
                 stack,
                 state: State::Named(before, name, token.span),
             })),
-            Err(error) => {
-                drop(before);
-                Err(error)
-            }
+            Err(error) => give_up((stack, before), error),
         },
         Mark::Sign(Sign::Minus) => Ok(step_minus(stack, before, token.span)),
         Mark::Sign(Sign::OpenParen) => Ok(Some(open(
@@ -455,10 +418,7 @@ pub fn step_want(
             Bracket::Parenthesis(token.span),
             before,
         )?)),
-        _ => {
-            drop(before);
-            Ok(None)
-        }
+        _ => refuse((stack, before)),
     }
 }
 
@@ -487,10 +447,7 @@ fn step_named(
             } = before;
             match term(alloc, product, minus, made(start, ExprKind::Get(name))) {
                 Ok(x) => step_have(alloc, stack, sum, x, token),
-                Err(error) => {
-                    drop(sum);
-                    Err(error)
-                }
+                Err(error) => give_up((stack, sum), error),
             }
         }
     }
@@ -519,10 +476,7 @@ fn end_named(alloc: Global, before: Pending, name: Name, start: Span) -> Result<
     } = before;
     match term(alloc, product, minus, made(start, ExprKind::Get(name))) {
         Ok(x) => add(alloc, sum, x),
-        Err(error) => {
-            drop(sum);
-            Err(error)
-        }
+        Err(error) => give_up(sum, error),
     }
 }
 
@@ -531,10 +485,7 @@ fn end(alloc: Global, state: State) -> Result<Option<Operand>, AllocError>
     ensures { IfOk result (λ r. r ≡ value_at [] state) }
 {
     match state {
-        State::Want(before) => {
-            drop(before);
-            Ok(None)
-        }
+        State::Want(before) => refuse(before),
         State::Named(before, name, start) => Ok(Some(end_named(alloc, before, name, start)?)),
         State::Have(sum, x) => Ok(Some(add(alloc, sum, x)?)),
     }
@@ -546,9 +497,10 @@ pub fn finish(alloc: Global, reading: Reading) -> Result<Option<Operand>, AllocE
 {
     let Reading { stack, state } = reading;
     if !stack.is_empty() {
-        drop(state);
+        drop((stack, state));
         return Ok(None);
     }
+    drop(stack);
     end(alloc, state)
 }
 

@@ -1,5 +1,5 @@
 -- Blocks are lists, and rows of statements as well.
-use Rattle.std.proofs.Common.{◌≡◌, ℕ, Bool, true, false, ◌&&◌, ◌||◌, not, if◌then◌else◌, List, [], ◌∷◌, ◌++◌, rules, arith, ap, refl, sym, ◌∙◌, append_assoc, ◌+◌, ◌<◌, ◌≤◌, length, take, drop, get_or, ◌-◌, length-drop}
+use Rattle.std.proofs.Common.{◌≡◌, ℕ, Bool, true, false, ◌&&◌, ◌||◌, not, if◌then◌else◌, List, [], ◌∷◌, ◌++◌, rules, arith, ap, refl, sym, ◌∙◌, append_assoc, ◌+◌, ◌<◌, length, take, drop, get_or, ◌-◌, length-drop}
 use Rattle.std.proofs.Math.Path.{fun_ext}
 use Rattle.std.proofs.lemmas.List.{drop_more, take_all}
 use mathlib.Core.Former.{Count}
@@ -15,7 +15,7 @@ use Rattle.ac_tree.specs.declared.program.StmtKind.TheVariants as stmt
 use Rattle.ac_flow.specs.Marks.{mark_at}
 use Rattle.ac_flow.specs.Cuts.{after, stmt_cuts, block_cuts, list_cuts}
 use Rattle.ac_flow.specs.Pairs.{loop_pairs, barrier_pairs, expr_pairs, cond_pairs, stmt_pairs, block_pairs, list_pairs}
-use Rattle.ac_flow.specs.Through.{goes_on, passes, block_passes, list_passes, exits, block_exits, leaving, onward, behind, behind_block}
+use Rattle.ac_flow.specs.Through.{goes_on, passes, block_passes, list_passes, exits, block_exits, leaving, onward}
 use Rattle.ac_flow.specs.ThroughLists.{list_exits, behind_list, joined}
 
 -- lists added one after the other

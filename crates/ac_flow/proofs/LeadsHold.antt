@@ -1,5 +1,5 @@
 -- Control leads to a target along a path exactly where the recursion over the tree says so.
-use Rattle.std.proofs.Common.{◌≡◌, ℕ, nat_eq, Bool, true, false, ◌&&◌, ◌||◌, not, if◌then◌else◌, List, [], ◌∷◌, ◌++◌, map, Option, Some, None, refl, sym, ◌∙◌, ap, subst, arith, rules, eq-eqb, eqb-true}
+use Rattle.std.proofs.Common.{◌≡◌, ℕ, nat_eq, Bool, true, false, ◌&&◌, ◌||◌, not, if◌then◌else◌, List, [], ◌∷◌, ◌++◌, map, Option, Some, None, refl, sym, ◌∙◌, ap, eq-eqb, eqb-true}
 use Rattle.std.specs.List.{list_any}
 use Rattle.std.proofs.lemmas.List.Folds.{list_any-append}
 use mathlib.Core.Logic.{◌⊎◌, inl, inr}
@@ -7,7 +7,6 @@ use Rattle.ac_tree.specs.declared.node.Node.{Node}
 use Rattle.ac_tree.specs.declared.node.NodeId.{NodeId}
 use Rattle.ac_tree.specs.declared.path.Target.{Target}
 use Rattle.ac_tree.specs.declared.path.Target.TheVariants.{Entry, Keep, Barrier, Site}
-use Rattle.ac_tree.specs.declared.path.Cut.{Cut}
 use Rattle.ac_tree.specs.declared.path.Cut.TheVariants as cut
 use Rattle.ac_tree.specs.declared.program.Cond.{Cond}
 use Rattle.ac_tree.specs.declared.program.CondKind.{CondKind}
@@ -16,9 +15,9 @@ use Rattle.ac_tree.specs.declared.program.Stmt.{Stmt}
 use Rattle.ac_tree.specs.declared.program.StmtKind.{StmtKind, Row_of-Stmt, end_of-Stmt, more_of-Stmt, Set, Put, If', For', While', Hand, Skip}
 use Rattle.ac_tree.specs.Patterns.{Negation, Conjunction, Disjunction}
 use Rattle.ac_flow.specs.Opened.{hidden, expr_shape, expr_child, cond_shape, cond_child}
-use Rattle.ac_flow.specs.Points.{Task, Begin, Do, Behind, Enter, Test, Turn, Exit, Judge, Decide, See, Point, reads_of, index_reads, block, ways, ways_of, ways_through, judged, IsOneWay, Next, cut_of, target_of, cut_at, target_at}
+use Rattle.ac_flow.specs.Points.{Task, Begin, Do, Behind, Enter, Test, Turn, Exit, Judge, Decide, See, Point, reads_of, index_reads, block, ways, ways_of, ways_through, IsOneWay, Next, cut_of, cut_at, target_at}
 use Rattle.ac_flow.specs.Paths.{LeadsTo, step, steps}
-use Rattle.ac_flow.specs.Leads.{is_site, is_entry, is_keep, is_barrier, cond_reads, is_among, past, leads, block_leads, list_leads, is_in_test, head_leads, task_leads, point_leads, task_leads_on, leads_on}
+use Rattle.ac_flow.specs.Leads.{is_site, is_entry, is_keep, is_barrier, cond_reads, is_among, past, leads, block_leads, list_leads, head_leads, point_leads, task_leads_on, leads_on}
 
 -- truth values
 

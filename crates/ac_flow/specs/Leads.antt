@@ -1,8 +1,7 @@
 -- Whether control leads from a statement to a target, by recursion over the tree, where `more` says whether it leads there
 -- from behind the statement.
-use Rattle.std.specs.Prelude.{ℕ, nat_eq, Bool, true, false, ◌&&◌, ◌||◌, not, List, [], ◌∷◌, ◌++◌, Option, Some, None}
+use Rattle.std.specs.Prelude.{ℕ, nat_eq, Bool, false, ◌&&◌, ◌||◌, not, List, [], ◌∷◌, ◌++◌, Option, Some, None}
 use Rattle.std.specs.List.{list_any}
-use Rattle.ac_tree.specs.declared.node.Node.{Node}
 use Rattle.ac_tree.specs.declared.node.NodeId.{NodeId}
 use Rattle.ac_tree.specs.declared.path.Target.{Target}
 use Rattle.ac_tree.specs.declared.path.Target.TheVariants.{Entry, Keep, Barrier, Site}
@@ -12,7 +11,7 @@ use Rattle.ac_tree.specs.declared.program.CondKind.TheVariants.{True, False, Rel
 use Rattle.ac_tree.specs.declared.program.Stmt.{Stmt}
 use Rattle.ac_tree.specs.declared.program.StmtKind.{StmtKind, Row_of-Stmt, end_of-Stmt, more_of-Stmt, Set, Put, If', For', While', Hand, Skip}
 use Rattle.ac_tree.specs.Patterns.{Negation, Conjunction, Disjunction}
-use Rattle.ac_flow.specs.Opened.{hidden, expr_shape, expr_child, cond_shape, cond_child}
+use Rattle.ac_flow.specs.Opened.{hidden, cond_shape, cond_child}
 use Rattle.ac_flow.specs.Points.{reads_of, index_reads, Task, Begin, Do, Behind, Enter, Test, Turn, Exit, Judge, Decide, See, Point}
 
 abbrev pub is_site : Target → NodeId → Bool

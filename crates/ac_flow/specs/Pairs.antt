@@ -1,11 +1,11 @@
 -- The pairs of a program in their order: by target, and the targets by node, with Entry, Keep, Barrier, Site at one node; and
 -- at one target by cut. A list of cuts are those from which control comes to a point without passing another.
-use Rattle.std.specs.Prelude.{ℕ, nat_eq, Bool, true, false, ◌&&◌, ◌||◌, not, if◌then◌else◌, List, [], ◌∷◌, ◌++◌, map}
+use Rattle.std.specs.Prelude.{ℕ, nat_eq, Bool, if◌then◌else◌, List, [], ◌∷◌, ◌++◌, map}
 use Rattle.std.specs.List.{list_any}
 use Rattle.ac_tree.specs.declared.node.Node.{Node}
 use Rattle.ac_tree.specs.declared.node.NodeId.{NodeId}
 use Rattle.ac_tree.specs.declared.path.Cut.{Cut}
-use Rattle.ac_tree.specs.declared.path.Cut.TheVariants.{Start, Head, Exit, After}
+use Rattle.ac_tree.specs.declared.path.Cut.TheVariants.{Start, Head, Exit}
 use Rattle.ac_tree.specs.declared.path.Pair.{Pair}
 use Rattle.ac_tree.specs.declared.path.Target.{Target}
 use Rattle.ac_tree.specs.declared.path.Target.TheVariants.{Entry, Keep, Barrier, Site}

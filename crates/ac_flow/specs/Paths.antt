@@ -1,6 +1,6 @@
 -- Paths: which targets control can reach from which cuts without passing another cut. A path ends at its target, and coming
 -- back to the cut that it left ends it too.
-use Rattle.std.specs.Prelude.{◌≡◌, ℕ, Bool, Option, Some, None}
+use Rattle.std.specs.Prelude.{◌≡◌, ℕ, Bool, Some, None}
 use Rattle.ac_tree.specs.declared.path.Cut.{Cut}
 use Rattle.ac_tree.specs.declared.path.Target.{Target}
 use Rattle.ac_tree.specs.declared.program.Program.{Program}

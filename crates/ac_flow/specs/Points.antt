@@ -1,7 +1,7 @@
 -- The control points of a program, and the steps between them. A control point is what is left to do there, the next first:
 -- before and behind each statement, before each test of a loop and behind its last one, and at each access. Control follows
 -- the program and ignores whether a test can hold.
-use Rattle.std.specs.Prelude.{◌≡◌, ℕ, Bool, true, false, if◌then◌else◌, List, [], ◌∷◌, ◌++◌, map, Option, Some, None, ◌⊎◌}
+use Rattle.std.specs.Prelude.{◌≡◌, ℕ, Bool, if◌then◌else◌, List, [], ◌∷◌, ◌++◌, map, Option, Some, None, ◌⊎◌}
 use Rattle.ac_tree.specs.declared.node.Node.{Node}
 use Rattle.ac_tree.specs.declared.node.NodeId.{NodeId}
 use Rattle.ac_tree.specs.declared.path.Cut.{Cut}

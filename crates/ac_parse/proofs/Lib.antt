@@ -9,3 +9,4 @@ pub mod OneProgram
 pub mod OneRefusal
 pub mod Parsed
 pub mod SpelledPrints
+pub mod Counted

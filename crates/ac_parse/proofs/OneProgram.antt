@@ -1,7 +1,7 @@
 -- Bytes spell at most one program.
 use Rattle.std.proofs.Common.{◌≡◌, ℕ, List, sym, ◌∙◌, ap, subst}
 use Rattle.ac_tree.specs.declared.program.Program.{Program}
-use Rattle.ac_tree.specs.Grammar.{Tokens, SpellsProgram}
+use Rattle.ac_tree.specs.Grammar.{SpellsProgram}
 use Rattle.ac_tree.specs.Numbering.{numbered_program}
 use Rattle.ac_tree.specs.Spelling.{Spells}
 use Rattle.ac_tokens.proofs.Cuts.{cut_once}

@@ -1,5 +1,5 @@
 -- What parsing comes to, stage by stage. What is spelled within the limits is refused for want of memory alone.
-use Rattle.std.proofs.Common.{◌≡◌, ℕ, ◌≤◌, ◌<◌, List, Option, Some, None, Result, Ok, Err, length, take, sym, ◌∙◌, ap, subst, arith, refl, IsUtf8}
+use Rattle.std.proofs.Common.{◌≡◌, ℕ, ◌≤◌, List, Some, None, Result, Ok, Err, length, sym, subst, arith, refl, IsUtf8}
 use Rattle.std.proofs.Math.Seq.{take-length}
 use Rattle.ac_tree.specs.Limits.{limit_of}
 use Rattle.ac_tree.specs.declared.limit.LimitKind.{LimitKind}

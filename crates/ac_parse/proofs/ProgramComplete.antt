@@ -1,5 +1,5 @@
 -- A program that is spelled is read.
-use Rattle.std.proofs.Common.{◌≡◌, ℕ, ℤ, List, [], ◌∷◌, ◌++◌, Option, Some, None, Bool, true, false, refl, sym, ◌∙◌, ap, append_assoc, append-nil}
+use Rattle.std.proofs.Common.{◌≡◌, ℤ, List, [], ◌∷◌, ◌++◌, Option, Some, None, refl, sym, ◌∙◌, ap, append_assoc, append-nil}
 use Rattle.ac_tree.specs.declared.node.Span.{Span}
 use Rattle.ac_tree.specs.declared.program.Extent.{Extent}
 use Rattle.ac_tree.specs.declared.program.Extents.{Extents}
@@ -7,24 +7,21 @@ use Rattle.ac_tree.specs.declared.program.Item.{Item}
 use Rattle.ac_tree.specs.declared.program.Program.{Program}
 use Rattle.ac_tree.specs.declared.program.Stmt.{Stmt}
 use Rattle.ac_tree.specs.declared.token.Keyword.TheVariants as keyword
-use Rattle.ac_tree.specs.declared.token.Mark.{Mark}
-use Rattle.ac_tree.specs.declared.token.Mark.TheVariants as mark
 use Rattle.ac_tree.specs.declared.token.Sign.TheVariants as sign
 use Rattle.ac_tree.specs.declared.token.Token.{Token}
 use Rattle.ac_tree.specs.Grammar as g
-use Rattle.ac_tree.specs.Grammar.{Tokens, NameBytes, SpellsInt, SpellsExtent, SpellsExtents, SpellsItem, SpellsItems, SpellsBlock, SpellsProgram, name, keyword_at, sign_at, join, node, first_span}
+use Rattle.ac_tree.specs.Grammar.{Tokens, NameBytes, SpellsInt, SpellsExtent, SpellsExtents, SpellsItem, SpellsItems, SpellsProgram, keyword_at, sign_at, node, first_span}
 use Rattle.ac_parse.specs.declared.declaration.DeclState.{DeclState}
-use Rattle.ac_parse.specs.declared.declaration.DeclState.TheVariants.{Between, Const, ConstName, Int, Minus, IntRead, Stored, StoredName, Extent as ExtentIn, ExtentRead, Extended}
+use Rattle.ac_parse.specs.declared.declaration.DeclState.TheVariants.{Between, Int, IntRead, StoredName, Extent as ExtentIn, ExtentRead, Extended}
 use Rattle.ac_parse.specs.declared.declaration.IntUse.{IntUse}
 use Rattle.ac_parse.specs.declared.declaration.IntUse.TheVariants.{Value, Low, High}
-use Rattle.ac_parse.specs.declared.declaration.ProgramReading.{ProgramReading}
-use Rattle.ac_parse.specs.declared.declaration.ProgramReading.TheVariants.{Declarations, Body, Whole}
+use Rattle.ac_parse.specs.declared.declaration.ProgramReading.TheVariants.{Declarations, Whole}
 use Rattle.ac_parse.specs.declared.declaration.Storage.{Storage}
 use Rattle.ac_parse.specs.declared.declaration.Storage.TheVariants as storage
 use Rattle.ac_parse.specs.declared.statement.StmtReading.{StmtReading}
 use Rattle.ac_parse.specs.ReadStatement as statement
-use Rattle.ac_parse.specs.ReadProgram.{start, begin_of, program_of, body_of, body_ends, extents_of, step, value, runs}
-use Rattle.ac_expression_reader.proofs.Paths.{Reaches, reached, path_runs, path_within, step_runs, inside_taken, inside_passed}
+use Rattle.ac_parse.specs.ReadProgram.{start, begin_of, program_of, body_of, body_ends, step, value, runs}
+use Rattle.ac_expression_reader.proofs.Paths.{Reaches, path_runs, path_within, step_runs, inside_taken, inside_passed}
 use Rattle.ac_parse.proofs.StatementComplete.{block_reached}
 use Rattle.ac_parse.proofs.StatementEnds.{block_own, block_closed}
 

@@ -1,5 +1,5 @@
 -- Each state of a program can be completed.
-use Rattle.std.proofs.Common.{◌≡◌, ℕ, ℤ, pos, List, [], ◌∷◌, ◌++◌, Option, Some, None, Bool, true, false, refl, sym, ◌∙◌, ap}
+use Rattle.std.proofs.Common.{◌≡◌, ℤ, pos, List, [], ◌∷◌, ◌++◌, Option, Some, None, refl, ◌∙◌, ap}
 use Rattle.ac_tree.specs.declared.node.Span.{Span}
 use Rattle.ac_tree.specs.declared.program.Extent.{Extent}
 use Rattle.ac_tree.specs.declared.program.Extent.TheVariants as extent
@@ -20,9 +20,8 @@ use Rattle.ac_parse.specs.declared.declaration.Storage.{Storage}
 use Rattle.ac_parse.specs.declared.declaration.Storage.TheVariants as storage
 use Rattle.ac_parse.specs.declared.statement.StmtReading.{StmtReading}
 use Rattle.ac_parse.specs.ReadStatement as statement
-use Rattle.ac_parse.specs.ReadProgram.{extents_of, program_of, body_of, step, value, runs}
+use Rattle.ac_parse.specs.ReadProgram.{extents_of, program_of, step, runs}
 use Rattle.ac_expression_reader.proofs.ExpressionEnds.{nowhere}
-use Rattle.ac_expression_reader.proofs.Paths.{Reaches, reached}
 use Rattle.ac_parse.proofs.ProgramComplete.{body_leads}
 use Rattle.ac_parse.proofs.StatementEnds.{block_ends}
 

@@ -1,5 +1,5 @@
 -- A program that is read is spelled so.
-use Rattle.std.proofs.Common.{◌≡◌, ℕ, ℤ, pos, neg_ℤ, List, [], ◌∷◌, ◌++◌, Option, Some, None, Bool, true, false, refl, sym, ◌∙◌, ap, subst, append_assoc, append-nil}
+use Rattle.std.proofs.Common.{◌≡◌, ℤ, pos, neg_ℤ, List, [], ◌∷◌, ◌++◌, Option, Some, None, refl, sym, ap, subst, append_assoc, append-nil}
 use Rattle.ac_tree.specs.declared.node.Span.{Span}
 use Rattle.ac_tree.specs.declared.program.Extent.{Extent}
 use Rattle.ac_tree.specs.declared.program.Extent.TheVariants as extent
@@ -15,7 +15,7 @@ use Rattle.ac_tree.specs.declared.token.Mark.TheVariants as mark
 use Rattle.ac_tree.specs.declared.token.Sign.TheVariants as sign
 use Rattle.ac_tree.specs.declared.token.Token.{Token}
 use Rattle.ac_tree.specs.Grammar as g
-use Rattle.ac_tree.specs.Grammar.{Tokens, NameBytes, SpellsInt, SpellsExtent, SpellsExtents, SpellsItem, SpellsItems, SpellsBlock, SpellsProgram, token, name, literal, keyword_at, sign_at, join, node, declaration, first_span}
+use Rattle.ac_tree.specs.Grammar.{Tokens, NameBytes, SpellsInt, SpellsExtent, SpellsExtents, SpellsItem, SpellsItems, SpellsBlock, SpellsProgram, token, name, literal, keyword_at, sign_at, join, node, declaration}
 use Rattle.ac_parse.specs.declared.declaration.DeclState.{DeclState}
 use Rattle.ac_parse.specs.declared.declaration.DeclState.TheVariants.{Between, Const, ConstName, Int, Minus, IntRead, Stored, StoredName, Extent as ExtentIn, ExtentRead, Extended}
 use Rattle.ac_parse.specs.declared.declaration.IntUse.{IntUse}
@@ -26,7 +26,7 @@ use Rattle.ac_parse.specs.declared.declaration.Storage.{Storage}
 use Rattle.ac_parse.specs.declared.declaration.Storage.TheVariants as storage
 use Rattle.ac_parse.specs.declared.statement.StmtReading.{StmtReading}
 use Rattle.ac_parse.specs.ReadStatement as statement
-use Rattle.ac_parse.specs.ReadProgram.{start, declare, between, const_name, const_equal, int, negative, int_ends, const_ends, low_ends, high_ends, stored_name, named, sized, input_goes_on, var_ends, input_kind, var_kind, extent_comes, extent_ends, next_extent, extents_of, begin_of, program_of, body_of, body_ends, step, value}
+use Rattle.ac_parse.specs.ReadProgram.{start, declare, between, const_name, const_equal, int, negative, int_ends, const_ends, low_ends, high_ends, stored_name, named, sized, input_goes_on, var_ends, input_kind, var_kind, extent_comes, extent_ends, next_extent, extents_of, body_of, body_ends, step, value}
 use Rattle.ac_expression_reader.proofs.ExpressionSound.{◌⋯◌, Just}
 use Rattle.ac_expression_reader.proofs.Paths.{IsPath, path_more, inside_cases}
 use Rattle.ac_parse.proofs.ProgramComplete.{items_begin}

@@ -1,5 +1,5 @@
 -- Reading with limits gives the program that is spelled, and stops where it is refused.
-use Rattle.std.proofs.Common.{◌≡◌, ℕ, ◌≤◌, ◌<◌, nat_lt, Bool, true, false, if◌then◌else◌, List, [], ◌∷◌, ◌++◌, Option, Some, None, Result, Ok, Err, fold, refl, sym, ◌∙◌, ap, subst, append_assoc, append-nil, arith, ◌↔◌}
+use Rattle.std.proofs.Common.{◌≡◌, ℕ, ◌≤◌, ◌<◌, nat_lt, true, false, if◌then◌else◌, [], ◌∷◌, ◌++◌, Option, Some, None, Result, Ok, Err, refl, sym, ◌∙◌, ap, subst, append_assoc, append-nil, arith, ◌↔◌}
 use Rattle.std.proofs.lemmas.Bool.Decides.{nat_tests}
 use Rattle.std.proofs.lemmas.List.Sums.{fold-append}
 use Rattle.ac_tree.specs.declared.limit.LimitKind.TheVariants as limit
@@ -13,8 +13,8 @@ use Rattle.ac_parse.specs.declared.refusal.Refusal.TheVariants.{Nesting, Operato
 use Rattle.ac_parse.specs.Limits.{nested, operated, nesting_of, operators_of, StaysWithin}
 use Rattle.ac_parse.specs.ReadProgram.{start, step, value, runs}
 use Rattle.ac_parse.specs.ReadTokens.{ended, reads, read_all}
-use Rattle.ac_parse.specs.Refusals.{NoneGoesOn, next_span, Refuses, IsRefused}
-use Rattle.ac_expression_reader.proofs.Paths.{IsPath, Reaches, reached, go_on, path_runs, path_more}
+use Rattle.ac_parse.specs.Refusals.{Refuses, IsRefused}
+use Rattle.ac_expression_reader.proofs.Paths.{IsPath, reached, go_on, path_runs, path_more}
 use Rattle.ac_parse.proofs.ProgramComplete.{complete, one_program}
 use Rattle.ac_parse.proofs.ProgramEnds.{completed}
 use Rattle.ac_parse.proofs.ProgramSound.{program_spelled}

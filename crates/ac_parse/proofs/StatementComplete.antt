@@ -1,17 +1,15 @@
 -- Statements that are spelled are read.
-use Rattle.std.proofs.Common.{◌≡◌, ℕ, List, [], ◌∷◌, ◌++◌, Option, Some, None, Bool, true, false, refl, sym, ◌∙◌, ap, append_assoc, append-nil}
+use Rattle.std.proofs.Common.{◌≡◌, [], ◌∷◌, ◌++◌, Option, Some, false, refl, sym, ◌∙◌, ap, append_assoc, append-nil}
 use Rattle.ac_tree.specs.declared.node.Span.{Span}
-use Rattle.ac_tree.specs.declared.program.Expr.{Expr}
 use Rattle.ac_tree.specs.declared.program.Index.{Index}
 use Rattle.ac_tree.specs.declared.program.Index.TheVariants as index
 use Rattle.ac_tree.specs.declared.program.Stmt.{Stmt}
 use Rattle.ac_tree.specs.declared.program.StmtKind.TheVariants as stmt
 use Rattle.ac_tree.specs.declared.token.Keyword.TheVariants as keyword
-use Rattle.ac_tree.specs.declared.token.Mark.TheVariants as mark
 use Rattle.ac_tree.specs.declared.token.Sign.TheVariants as sign
 use Rattle.ac_tree.specs.declared.token.Token.{Token}
 use Rattle.ac_tree.specs.Grammar as g
-use Rattle.ac_tree.specs.Grammar.{Tokens, NameBytes, Disjunction, Sum, SpellsExpr, SpellsIndex, SpellsCond, SpellsStmt, SpellsBlock, name, keyword_at, sign_at, join, statement}
+use Rattle.ac_tree.specs.Grammar.{Tokens, NameBytes, SpellsIndex, SpellsStmt, SpellsBlock, keyword_at, sign_at, join}
 use Rattle.ac_expression_reader.specs.declared.condition.CondReading.{CondReading}
 use Rattle.ac_expression_reader.specs.declared.condition.Test.{Test}
 use Rattle.ac_expression_reader.specs.declared.expression.Operand.{Operand}
@@ -23,7 +21,7 @@ use Rattle.ac_parse.specs.declared.statement.ExprUse.TheVariants.{Value, First, 
 use Rattle.ac_parse.specs.declared.statement.OpenStmt.TheVariants.{Yes, No, ForBody, WhileBody}
 use Rattle.ac_parse.specs.declared.statement.StmtReading.{StmtReading}
 use Rattle.ac_parse.specs.declared.statement.StmtState.{StmtState}
-use Rattle.ac_parse.specs.declared.statement.StmtState.TheVariants.{Between, Named, Indexed, Expression, Condition, For, ForName, Use, UseName, UseAs, UseRole, Skip}
+use Rattle.ac_parse.specs.declared.statement.StmtState.TheVariants.{Between, Named, Indexed, Expression, Condition}
 use Rattle.ac_expression_reader.specs.ReadCondition as condition
 use Rattle.ac_expression_reader.specs.ReadExpression as expression
 use Rattle.ac_parse.specs.ReadStatement.{Stack, Block, reading, start, ended, frame, opened, evaluating, testing, behind, tested, step, value, runs}
@@ -31,7 +29,7 @@ use Rattle.ac_expression_reader.proofs.ConditionComplete.{condition_reached}
 use Rattle.ac_expression_reader.proofs.ConditionEnds.{condition_own}
 use Rattle.ac_expression_reader.proofs.ExpressionComplete.{expression_reached}
 use Rattle.ac_expression_reader.proofs.ExpressionEnds.{own, closed}
-use Rattle.ac_expression_reader.proofs.Paths.{IsPath, Reaches, reached, path_runs, path_within, step_runs, inside_taken, inside_passed}
+use Rattle.ac_expression_reader.proofs.Paths.{Reaches, reached, path_runs, path_within, step_runs, inside_taken, inside_passed}
 
 abbrev pub run : Stack → Block → StmtState → Tokens → Option Block
 run k xs s ts = runs (reading k xs s) ts

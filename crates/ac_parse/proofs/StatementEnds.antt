@@ -1,5 +1,5 @@
 -- Each state of a block can be completed, and which token ends it.
-use Rattle.std.proofs.Common.{◌≡◌, ℕ, List, [], ◌∷◌, ◌++◌, Option, Some, None, Bool, true, false, refl, sym, ◌∙◌, ap}
+use Rattle.std.proofs.Common.{◌≡◌, [], ◌∷◌, ◌++◌, Option, Some, None, true, false, refl, ◌∙◌, ap}
 use Rattle.ac_tree.specs.declared.node.Span.{Span}
 use Rattle.ac_tree.specs.declared.program.Index.{Index}
 use Rattle.ac_tree.specs.declared.program.Index.TheVariants as index
@@ -18,18 +18,17 @@ use Rattle.ac_parse.specs.declared.statement.CondUse.{CondUse}
 use Rattle.ac_parse.specs.declared.statement.CondUse.TheVariants as test
 use Rattle.ac_parse.specs.declared.statement.ExprUse.{ExprUse}
 use Rattle.ac_parse.specs.declared.statement.ExprUse.TheVariants.{Value, First, Second, Cell, Low, High}
-use Rattle.ac_parse.specs.declared.statement.OpenStmt.TheVariants.{Yes, No, ForBody, WhileBody}
+use Rattle.ac_parse.specs.declared.statement.OpenStmt.TheVariants.{Yes, ForBody, WhileBody}
 use Rattle.ac_parse.specs.declared.statement.StmtReading.{StmtReading}
 use Rattle.ac_parse.specs.declared.statement.StmtState.{StmtState}
 use Rattle.ac_parse.specs.declared.statement.StmtState.TheVariants.{Between, Named, Indexed, Expression, Condition, For, ForName, Use, UseName, UseAs, UseRole, Skip}
 use Rattle.ac_expression_reader.specs.ReadCondition as condition
 use Rattle.ac_expression_reader.specs.ReadExpression as expression
-use Rattle.ac_parse.specs.ReadStatement.{Stack, Block, reading, ended, opened, evaluating, testing, behind, tested, between, ending, step, step_at, value, value_at, runs, is_own, is_open}
-use Rattle.ac_expression_reader.specs.Steps.{inside, passed}
+use Rattle.ac_parse.specs.ReadStatement.{Stack, Block, reading, ended, opened, evaluating, testing, behind, tested, step, step_at, value, value_at, runs, is_own}
 use Rattle.ac_expression_reader.proofs.ConditionEnds.{condition_ends, none_passed}
 use Rattle.ac_expression_reader.proofs.ExpressionEnds.{nowhere, expression_ends}
 use Rattle.ac_expression_reader.proofs.Paths.{Reaches, reached}
-use Rattle.ac_parse.proofs.StatementComplete.{run, expression_leads, condition_leads}
+use Rattle.ac_parse.proofs.StatementComplete.{expression_leads, condition_leads}
 
 record Completed (m : StmtReading) : Type 0 where
   tree : Block

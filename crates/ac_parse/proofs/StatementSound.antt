@@ -1,10 +1,8 @@
 -- Statements that are read are spelled so.
-use Rattle.std.proofs.Common.{◌≡◌, ℕ, List, [], ◌∷◌, ◌++◌, Option, Some, None, Bool, true, false, refl, sym, ◌∙◌, ap, subst, append_assoc, append-nil}
+use Rattle.std.proofs.Common.{◌≡◌, [], ◌∷◌, ◌++◌, Option, Some, None, refl, sym, ap, subst, append_assoc, append-nil}
 use Rattle.ac_tree.specs.declared.node.Span.{Span}
-use Rattle.ac_tree.specs.declared.program.Cond.{Cond}
 use Rattle.ac_tree.specs.declared.program.Expr.{Expr}
 use Rattle.ac_tree.specs.declared.program.Index.{Index}
-use Rattle.ac_tree.specs.declared.program.Index.TheVariants as index
 use Rattle.ac_tree.specs.declared.program.Stmt.{Stmt}
 use Rattle.ac_tree.specs.declared.program.StmtKind.{StmtKind}
 use Rattle.ac_tree.specs.declared.program.StmtKind.TheVariants as stmt
@@ -31,7 +29,7 @@ use Rattle.ac_parse.specs.declared.statement.StmtState.{StmtState}
 use Rattle.ac_parse.specs.declared.statement.StmtState.TheVariants.{Between, Named, Indexed, Expression, Condition, For, ForName, Use, UseName, UseAs, UseRole, Skip}
 use Rattle.ac_expression_reader.specs.ReadCondition as condition
 use Rattle.ac_expression_reader.specs.ReadExpression as expression
-use Rattle.ac_parse.specs.ReadStatement.{Stack, Block, reading, start, ended, frame, opened, finished, ending, turned, turning, between, evaluating, testing, naming, indexing, behind, value_ends, first_ends, second_ends, cell_ends, low_ends, high_ends, tested, then_comes, do_comes, for_name, for_assign, use_name, use_as, use_role, use_ends, skip_ends, step, step_at, value, value_at}
+use Rattle.ac_parse.specs.ReadStatement.{Stack, Block, start, frame, finished, ending, turned, turning, between, evaluating, testing, naming, indexing, behind, value_ends, first_ends, second_ends, cell_ends, low_ends, high_ends, tested, then_comes, do_comes, for_name, for_assign, use_name, use_as, use_role, use_ends, skip_ends, step, step_at, value, value_at}
 use Rattle.ac_expression_reader.proofs.ConditionSound.{SpellsTest, condition_spelled}
 use Rattle.ac_expression_reader.proofs.ExpressionSound.{◌⋯◌, Just, SpellsOperand, expression_spelled}
 use Rattle.ac_expression_reader.proofs.Paths.{IsPath, path_more, inside_cases}

@@ -1,10 +1,9 @@
 -- Reading the tokens of a program, with its limits.
 -- No promise rests on this file: it says what the code keeps on the way.
-use Rattle.std.specs.Prelude.{ℕ, nat_lt, Bool, if◌then◌else◌, List, [], ◌∷◌, Option, Some, None, Result, Ok, Err}
+use Rattle.std.specs.Prelude.{ℕ, nat_lt, if◌then◌else◌, [], ◌∷◌, Option, Some, None, Result, Ok, Err}
 use Rattle.ac_tree.specs.declared.limit.LimitKind.TheVariants as limit
 use Rattle.ac_tree.specs.Limits.{limit_of}
 use Rattle.ac_tree.specs.declared.program.Program.{Program}
-use Rattle.ac_tree.specs.declared.token.Token.{Token}
 use Rattle.ac_tree.specs.Grammar.{Tokens}
 use Rattle.ac_parse.specs.declared.declaration.ProgramReading.{ProgramReading}
 use Rattle.ac_parse.specs.declared.refusal.Refusal.{Refusal}

@@ -1,6 +1,7 @@
 //! The machine that reads the tokens of a program forwards: its declarations, and its body by the machine of statements.
 ghost use Rattle.std.specs.Prelude.{◌≡◌, ◌≤◌, [], ◌∷◌, ◌++◌, ℤ, pos, neg_ℤ, IfOk, Some, None};
 ghost use Rattle.ac_tree.specs.Grammar.{declaration as declaration_of};
+ghost use Rattle.ac_expression_reader.specs.Steps.{passed};
 ghost use Rattle.ac_tokens.specs.TokenFaults.{IsWithinLimits};
 ghost use Rattle.ac_parse.specs.ReadProgram.{start as start_of, between, const_name, const_equal, int as int_of, negative as negative_of, input_kind as input_kind_of, const_ends, low_ends, high_ends, int_ends, stored_name, input_goes_on, var_kind as var_kind_of, var_ends, sized, named, extent_comes, extents_of as all_extents, next_extent, extent_ends, declare as declare_at, begin_of, program_of, body_ends, step as step_of, value as value_of};
 
@@ -8,6 +9,7 @@ use crate::begun::Begun;
 use crate::statement;
 use crate::statement::StmtReading;
 use ac_expression_reader::expression::{join, unnumbered};
+use ac_expression_reader::refusal::{dismiss, give_up, refuse};
 use ac_tree::{
     Extent, Extents, Item, ItemKind, Keyword, Mark, Name, Program, Sign, Span, Stmt, Token,
 };
@@ -77,8 +79,10 @@ fn end(
 {
     let mut done = done;
     let node = unnumbered(span);
-    done.push(Item { node, name, kind })?;
-    Ok(at(done, DeclState::Between))
+    match done.push(Item { node, name, kind }) {
+        Ok(()) => Ok(at(done, DeclState::Between)),
+        Err(error) => give_up(done, error),
+    }
 }
 
 fn step_between(alloc: Global, done: Items<Item>, token: &Token) -> Option<ProgramReading>
@@ -93,7 +97,7 @@ fn step_between(alloc: Global, done: Items<Item>, token: &Token) -> Option<Progr
             token.span,
             statement::begin(alloc),
         )),
-        _ => None,
+        _ => dismiss(done),
     }
 }
 
@@ -105,11 +109,11 @@ fn step_const(
     ensures { IfOk result (λ r. r ≡ const_name done start token.now.mark) }
 {
     match &token.mark {
-        Mark::Name(name) => {
-            let name = name.clone()?;
-            Ok(at(done, DeclState::ConstName(start, name)))
-        }
-        _ => Ok(None),
+        Mark::Name(name) => match name.clone() {
+            Ok(name) => Ok(at(done, DeclState::ConstName(start, name))),
+            Err(error) => give_up(done, error),
+        },
+        _ => refuse(done),
     }
 }
 
@@ -123,7 +127,7 @@ fn step_const_name(
 {
     match &token.mark {
         Mark::Sign(Sign::Equal) => at(done, DeclState::Int(IntUse::Value(start, name))),
-        _ => None,
+        _ => dismiss((done, name)),
     }
 }
 
@@ -134,10 +138,7 @@ fn step_int(done: Items<Item>, purpose: IntUse, token: &Token) -> Option<Program
     match &token.mark {
         Mark::Literal(number) => at(done, DeclState::IntRead(purpose, *number as i64)),
         Mark::Sign(Sign::Minus) => at(done, DeclState::Minus(purpose)),
-        _ => {
-            drop(purpose);
-            None
-        }
+        _ => dismiss((done, purpose)),
     }
 }
 
@@ -150,10 +151,7 @@ fn step_minus(done: Items<Item>, purpose: IntUse, token: &Token) -> Option<Progr
             let number = *number as i64;
             at(done, DeclState::IntRead(purpose, -number))
         }
-        _ => {
-            drop(purpose);
-            None
-        }
+        _ => dismiss((done, purpose)),
     }
 }
 
@@ -182,7 +180,7 @@ fn end_const(
             name,
             ItemKind::Const { value },
         ),
-        _ => Ok(None),
+        _ => refuse((done, name)),
     }
 }
 
@@ -201,10 +199,7 @@ fn end_low(
             done,
             DeclState::Int(IntUse::High(start, name, extents, lo)),
         ),
-        _ => {
-            drop(extents);
-            None
-        }
+        _ => dismiss((done, name, extents)),
     }
 }
 
@@ -226,10 +221,7 @@ fn end_high(
             name,
             input_kind(extents, lo, hi),
         ),
-        _ => {
-            drop(extents);
-            Ok(None)
-        }
+        _ => refuse((done, name, extents)),
     }
 }
 
@@ -265,11 +257,11 @@ fn step_stored(
     ensures { IfOk result (λ r. r ≡ stored_name done storage start token.now.mark) }
 {
     match &token.mark {
-        Mark::Name(name) => {
-            let name = name.clone()?;
-            Ok(at(done, DeclState::StoredName(storage, start, name)))
-        }
-        _ => Ok(None),
+        Mark::Name(name) => match name.clone() {
+            Ok(name) => Ok(at(done, DeclState::StoredName(storage, start, name))),
+            Err(error) => give_up(done, error),
+        },
+        _ => refuse(done),
     }
 }
 
@@ -293,10 +285,7 @@ fn end_input(
 {
     match &token.mark {
         Mark::Sign(Sign::Colon) => at(done, DeclState::Int(IntUse::Low(start, name, extents))),
-        _ => {
-            drop(extents);
-            None
-        }
+        _ => dismiss((done, name, extents)),
     }
 }
 
@@ -311,10 +300,7 @@ fn end_var(
 {
     match &token.mark {
         Mark::Sign(Sign::Semicolon) => end(done, join(start, token.span), name, var_kind(extents)),
-        _ => {
-            drop(extents);
-            Ok(None)
-        }
+        _ => refuse((done, name, extents)),
     }
 }
 
@@ -374,15 +360,9 @@ fn step_extent(
                 done,
                 DeclState::ExtentRead(storage, start, name, first, Extent::Named(other)),
             )),
-            Err(error) => {
-                drop(first);
-                Err(error)
-            }
+            Err(error) => give_up((done, name, first), error),
         },
-        _ => {
-            drop(first);
-            Ok(None)
-        }
+        _ => refuse((done, name, first)),
     }
 }
 
@@ -407,11 +387,7 @@ fn second_extent(
 {
     match before {
         None => at(done, DeclState::Extent(storage, start, name, Some(first))),
-        Some(before) => {
-            drop(before);
-            drop(first);
-            None
-        }
+        Some(before) => dismiss((done, name, before, first)),
     }
 }
 
@@ -433,11 +409,7 @@ fn step_extent_read(
             DeclState::Extended(storage, start, name, extents_of(first, last)),
         ),
         Mark::Sign(Sign::Comma) => second_extent(done, storage, start, name, first, last),
-        _ => {
-            drop(first);
-            drop(last);
-            None
-        }
+        _ => dismiss((done, name, first, last)),
     }
 }
 
@@ -501,6 +473,26 @@ fn whole(items: Items<Item>, begin: Span, end: Span, body: Items<Stmt>) -> Progr
     Program { node, items, body }
 }
 
+/// The first token that is not the body's own.
+fn step_past(
+    items: Items<Item>,
+    begin: Span,
+    body: Option<Items<Stmt>>,
+    token: &Token,
+) -> Option<ProgramReading>
+    ensures { result ≡ passed (body_ends items begin token.now.span token.now.mark) body }
+{
+    let Some(body) = body else {
+        return dismiss(items)
+    };
+    match &token.mark {
+        Mark::Keyword(Keyword::End) => Some(ProgramReading::Whole(whole(
+            items, begin, token.span, body,
+        ))),
+        _ => dismiss((items, body)),
+    }
+}
+
 /// A token of the body.
 fn step_body(
     alloc: Global,
@@ -512,17 +504,13 @@ fn step_body(
     ensures { IfOk result (λ r. r ≡ step_of (ProgramReading.Body items begin reading) token.now) }
 {
     if statement::is_own(&reading, token) {
-        match statement::step(alloc, reading, token)? {
-            None => Ok(None),
-            Some(reading) => Ok(Some(ProgramReading::Body(items, begin, reading))),
+        match statement::step(alloc, reading, token) {
+            Ok(Some(reading)) => Ok(Some(ProgramReading::Body(items, begin, reading))),
+            Ok(None) => refuse(items),
+            Err(error) => give_up(items, error),
         }
     } else {
-        match (statement::finish(reading), &token.mark) {
-            (Some(body), Mark::Keyword(Keyword::End)) => Ok(Some(ProgramReading::Whole(whole(
-                items, begin, token.span, body,
-            )))),
-            _other => Ok(None),
-        }
+        Ok(step_past(items, begin, statement::finish(reading), token))
     }
 }
 
@@ -540,7 +528,7 @@ pub fn step(
         ProgramReading::Body(items, begin, reading) => step_body(
             alloc, items, begin, reading, token,
         ),
-        ProgramReading::Whole(_program) => Ok(None),
+        ProgramReading::Whole(program) => refuse(program),
     }
 }
 
@@ -550,6 +538,6 @@ pub fn finish(reading: ProgramReading) -> Option<Program>
 {
     match reading {
         ProgramReading::Whole(program) => Some(program),
-        _other => None,
+        other => dismiss(other),
     }
 }

@@ -5,6 +5,7 @@ ghost use Rattle.ac_parse.specs.ReadStatement.{for_name, for_assign, use_name, u
 
 use crate::statement::{ExprUse, Frame, StmtReading, StmtState, at, end, evaluate, made};
 use ac_expression_reader::expression::join;
+use ac_expression_reader::refusal::{dismiss, give_up, refuse};
 use ac_expression_reader::stack::Stack;
 use ac_tree::{Keyword, Mark, Name, Sign, Span, Stmt, StmtKind, Token};
 use sqlite_items::Items;
@@ -20,11 +21,11 @@ pub fn step_for(
     ensures { IfOk result (λ r. r ≡ for_name stack done start token.now.mark) }
 {
     match &token.mark {
-        Mark::Name(name) => {
-            let name = name.clone()?;
-            Ok(at(stack, done, StmtState::ForName(start, name)))
-        }
-        _ => Ok(None),
+        Mark::Name(name) => match name.clone() {
+            Ok(name) => Ok(at(stack, done, StmtState::ForName(start, name))),
+            Err(error) => give_up((stack, done), error),
+        },
+        _ => refuse((stack, done)),
     }
 }
 
@@ -41,7 +42,7 @@ pub fn step_for_name(
 {
     match &token.mark {
         Mark::Sign(Sign::Assign) => evaluate(alloc, stack, done, ExprUse::Low(start, name)),
-        _ => None,
+        _ => dismiss((stack, done, name)),
     }
 }
 
@@ -55,11 +56,11 @@ pub fn step_use(
     ensures { IfOk result (λ r. r ≡ use_name stack done start token.now.mark) }
 {
     match &token.mark {
-        Mark::Name(name) => {
-            let name = name.clone()?;
-            Ok(at(stack, done, StmtState::UseName(start, name)))
-        }
-        _ => Ok(None),
+        Mark::Name(name) => match name.clone() {
+            Ok(name) => Ok(at(stack, done, StmtState::UseName(start, name))),
+            Err(error) => give_up((stack, done), error),
+        },
+        _ => refuse((stack, done)),
     }
 }
 
@@ -75,7 +76,7 @@ pub fn step_use_name(
 {
     match &token.mark {
         Mark::Keyword(Keyword::As) => at(stack, done, StmtState::UseAs(start, name)),
-        _ => None,
+        _ => dismiss((stack, done, name)),
     }
 }
 
@@ -90,11 +91,11 @@ pub fn step_use_as(
     ensures { IfOk result (λ r. r ≡ use_role stack done start name token.now.mark) }
 {
     match &token.mark {
-        Mark::Name(role) => {
-            let role = role.clone()?;
-            Ok(at(stack, done, StmtState::UseRole(start, name, role)))
-        }
-        _ => Ok(None),
+        Mark::Name(role) => match role.clone() {
+            Ok(role) => Ok(at(stack, done, StmtState::UseRole(start, name, role))),
+            Err(error) => give_up((stack, done, name), error),
+        },
+        _ => refuse((stack, done, name)),
     }
 }
 
@@ -115,7 +116,7 @@ pub fn step_use_role(
             done,
             made(join(start, token.span), StmtKind::Hand { name, role }),
         ),
-        _ => Ok(None),
+        _ => refuse((stack, done, name, role)),
     }
 }
 
@@ -134,6 +135,6 @@ pub fn step_skip(
             done,
             made(join(start, token.span), StmtKind::Skip),
         ),
-        _ => Ok(None),
+        _ => refuse((stack, done)),
     }
 }

@@ -62,9 +62,11 @@ pub fn read(
         depth = nest(depth, &token.mark);
         operators = operate(operators, &token.mark);
         if depth > LimitKind::Nesting.number() {
+            drop(reading);
             return Ok(Err(Refusal::Nesting));
         }
         if operators > LimitKind::Operators.number() {
+            drop(reading);
             return Ok(Err(Refusal::Operators));
         }
         match declaration::step(alloc, reading, token)? {

@@ -8,8 +8,10 @@ ghost use Rattle.ac_parse.specs.ReadStatement.{reading as reading_of, ended, ope
 
 use crate::begun::{Begun, Halfway};
 use crate::headers;
+use ac_expression_reader::children::box_two;
 use ac_expression_reader::condition::{CondReading, Test};
 use ac_expression_reader::expression::{Operand, Reading, join, unnumbered};
+use ac_expression_reader::refusal::{dismiss, give_up, refuse};
 use ac_expression_reader::stack::Stack;
 use ac_expression_reader::{condition, expression};
 use ac_tree::{Cond, Expr, Index, Keyword, Mark, Name, Sign, Span, Stmt, StmtKind, Token};
@@ -109,8 +111,10 @@ pub fn end(
     ensures { IfOk result (λ r. r ≡ Some (reading_of stack (done ++ statement ∷ []) StmtState.Between)) }
 {
     let mut done = done;
-    done.push(statement)?;
-    Ok(at(stack, done, StmtState::Between))
+    match done.push(statement) {
+        Ok(()) => Ok(at(stack, done, StmtState::Between)),
+        Err(error) => give_up((stack, done), error),
+    }
 }
 
 /// A block begins.
@@ -123,8 +127,10 @@ fn open(
     ensures { IfOk result (λ r. r ≡ Some (opened stack before within)) }
 {
     let mut stack = stack;
-    stack.push(Frame { before, within })?;
-    Ok(at(stack, Items::new(alloc), StmtState::Between))
+    match stack.push(Frame { before, within }) {
+        Ok(()) => Ok(at(stack, Items::new(alloc), StmtState::Between)),
+        Err(error) => give_up(stack, error),
+    }
 }
 
 /// An expression begins.
@@ -206,7 +212,7 @@ fn step_end(
 {
     let mut stack = stack;
     match stack.pop() {
-        None => Ok(None),
+        None => refuse((stack, done)),
         Some(frame) => {
             let statement = close(alloc, frame.within, at, done);
             end(stack, frame.before, statement)
@@ -225,10 +231,7 @@ fn turn(
 {
     match within {
         OpenStmt::Yes(start, test) => open(alloc, stack, before, OpenStmt::No(start, test, done)),
-        other => {
-            drop(other);
-            Ok(None)
-        }
+        other => refuse((stack, before, other, done)),
     }
 }
 
@@ -242,7 +245,7 @@ fn step_else(
 {
     let mut stack = stack;
     match stack.pop() {
-        None => Ok(None),
+        None => refuse((stack, done)),
         Some(frame) => turn(alloc, stack, frame.before, frame.within, done),
     }
 }
@@ -257,10 +260,10 @@ fn step_between(
     ensures { IfOk result (λ r. r ≡ between stack done token.now.span token.now.mark) }
 {
     match &token.mark {
-        Mark::Name(name) => {
-            let name = name.clone()?;
-            Ok(at(stack, done, StmtState::Named(name, token.span)))
-        }
+        Mark::Name(name) => match name.clone() {
+            Ok(name) => Ok(at(stack, done, StmtState::Named(name, token.span))),
+            Err(error) => give_up((stack, done), error),
+        },
         Mark::Keyword(Keyword::If) => Ok(test(alloc, stack, done, CondUse::If(token.span))),
         Mark::Keyword(Keyword::While) => Ok(test(alloc, stack, done, CondUse::While(token.span))),
         Mark::Keyword(Keyword::For) => Ok(at(stack, done, StmtState::For(token.span))),
@@ -268,7 +271,7 @@ fn step_between(
         Mark::Keyword(Keyword::Skip) => Ok(at(stack, done, StmtState::Skip(token.span))),
         Mark::Keyword(Keyword::Else) => step_else(alloc, stack, done),
         Mark::Keyword(Keyword::End) => step_end(alloc, stack, done, token.span),
-        _ => Ok(None),
+        _ => refuse((stack, done)),
     }
 }
 
@@ -285,7 +288,7 @@ fn step_named(
     match &token.mark {
         Mark::Sign(Sign::Assign) => evaluate(alloc, stack, done, ExprUse::Value(name, start)),
         Mark::Sign(Sign::OpenBracket) => evaluate(alloc, stack, done, ExprUse::First(name, start)),
-        _ => None,
+        _ => dismiss((stack, done, name)),
     }
 }
 
@@ -302,10 +305,7 @@ fn step_indexed(
     let Begun { start, name } = begun;
     match &token.mark {
         Mark::Sign(Sign::Assign) => evaluate(alloc, stack, done, ExprUse::Cell(name, start, index)),
-        _ => {
-            drop(index);
-            None
-        }
+        _ => dismiss((stack, done, name, index)),
     }
 }
 
@@ -331,10 +331,7 @@ fn end_value(
                 },
             ),
         ),
-        _ => {
-            drop(x);
-            Ok(None)
-        }
+        _ => refuse((stack, done, name, x)),
     }
 }
 
@@ -350,32 +347,21 @@ fn end_first(
 {
     let Begun { start, name } = begun;
     match &token.mark {
-        Mark::Sign(Sign::CloseBracket) => {
-            let index = Index::One(Boxed::new(alloc, x.expr)?);
-            Ok(at(stack, done, StmtState::Indexed(name, start, index)))
-        }
+        Mark::Sign(Sign::CloseBracket) => match Boxed::new(alloc, x.expr) {
+            Ok(index) => Ok(at(
+                stack,
+                done,
+                StmtState::Indexed(name, start, Index::One(index)),
+            )),
+            Err(error) => give_up((stack, done, name), error),
+        },
         Mark::Sign(Sign::Comma) => Ok(evaluate(
             alloc,
             stack,
             done,
             ExprUse::Second(name, start, x.expr),
         )),
-        _ => {
-            drop(x);
-            Ok(None)
-        }
-    }
-}
-
-fn index_two(alloc: Global, first: Expr, second: Expr) -> Result<Index, AllocError>
-    ensures { IfOk result (λ r. r ≡ Index.Two first second) }
-{
-    match Boxed::new(alloc, first) {
-        Ok(first) => Ok(Index::Two(first, Boxed::new(alloc, second)?)),
-        Err(error) => {
-            drop(second);
-            Err(error)
-        }
+        _ => refuse((stack, done, name, x)),
     }
 }
 
@@ -391,15 +377,15 @@ fn end_second(
 {
     let Halfway { start, name, first } = halfway;
     match &token.mark {
-        Mark::Sign(Sign::CloseBracket) => {
-            let index = index_two(alloc, first, x.expr)?;
-            Ok(at(stack, done, StmtState::Indexed(name, start, index)))
-        }
-        _ => {
-            drop(first);
-            drop(x);
-            Ok(None)
-        }
+        Mark::Sign(Sign::CloseBracket) => match box_two(alloc, first, x.expr) {
+            Ok((first, second)) => Ok(at(
+                stack,
+                done,
+                StmtState::Indexed(name, start, Index::Two(first, second)),
+            )),
+            Err(error) => give_up((stack, done, name), error),
+        },
+        _ => refuse((stack, done, name, first, x)),
     }
 }
 
@@ -427,11 +413,7 @@ fn end_cell(
                 },
             ),
         ),
-        _ => {
-            drop(index);
-            drop(x);
-            Ok(None)
-        }
+        _ => refuse((stack, done, name, index, x)),
     }
 }
 
@@ -453,10 +435,7 @@ fn end_low(
             done,
             ExprUse::High(start, name, x.expr),
         ),
-        _ => {
-            drop(x);
-            None
-        }
+        _ => dismiss((stack, done, name, x)),
     }
 }
 
@@ -478,11 +457,7 @@ fn end_high(
             done,
             OpenStmt::ForBody(start, name, first, x.expr),
         ),
-        _ => {
-            drop(first);
-            drop(x);
-            Ok(None)
-        }
+        _ => refuse((stack, done, name, first, x)),
     }
 }
 
@@ -545,14 +520,8 @@ fn step_within(
 {
     match expression::step(alloc, reading, token) {
         Ok(Some(reading)) => Ok(at(stack, done, StmtState::Expression(purpose, reading))),
-        Ok(None) => {
-            drop(purpose);
-            Ok(None)
-        }
-        Err(error) => {
-            drop(purpose);
-            Err(error)
-        }
+        Ok(None) => refuse((stack, done, purpose)),
+        Err(error) => give_up((stack, done, purpose), error),
     }
 }
 
@@ -569,14 +538,8 @@ fn step_past(
 {
     match expression::finish(alloc, reading) {
         Ok(Some(x)) => behind(alloc, stack, done, purpose, x, token),
-        Ok(None) => {
-            drop(purpose);
-            Ok(None)
-        }
-        Err(error) => {
-            drop(purpose);
-            Err(error)
-        }
+        Ok(None) => refuse((stack, done, purpose)),
+        Err(error) => give_up((stack, done, purpose), error),
     }
 }
 
@@ -610,10 +573,7 @@ fn expect_then(
 {
     match &token.mark {
         Mark::Keyword(Keyword::Then) => open(alloc, stack, done, OpenStmt::Yes(start, test.cond)),
-        _ => {
-            drop(test);
-            Ok(None)
-        }
+        _ => refuse((stack, done, test)),
     }
 }
 
@@ -634,10 +594,7 @@ fn expect_do(
             done,
             OpenStmt::WhileBody(start, test.cond),
         ),
-        _ => {
-            drop(test);
-            Ok(None)
-        }
+        _ => refuse((stack, done, test)),
     }
 }
 
@@ -669,9 +626,10 @@ fn step_test(
 ) -> Result<Option<StmtReading>, AllocError>
     ensures { IfOk result (λ r. r ≡ taken (testing stack done purpose) (condition_of.step reading token.now)) }
 {
-    match condition::step(alloc, reading, token)? {
-        None => Ok(None),
-        Some(reading) => Ok(at(stack, done, StmtState::Condition(purpose, reading))),
+    match condition::step(alloc, reading, token) {
+        Ok(Some(reading)) => Ok(at(stack, done, StmtState::Condition(purpose, reading))),
+        Ok(None) => refuse((stack, done)),
+        Err(error) => give_up((stack, done), error),
     }
 }
 
@@ -686,9 +644,10 @@ fn end_test(
 ) -> Result<Option<StmtReading>, AllocError>
     ensures { IfOk result (λ r. r ≡ passed (tested stack done purpose token.now.mark) (condition_of.value reading)) }
 {
-    match condition::finish(alloc, reading)? {
-        None => Ok(None),
-        Some(test) => behind_test(alloc, stack, done, purpose, test, token),
+    match condition::finish(alloc, reading) {
+        Ok(Some(test)) => behind_test(alloc, stack, done, purpose, test, token),
+        Ok(None) => refuse((stack, done)),
+        Err(error) => give_up((stack, done), error),
     }
 }
 
@@ -758,7 +717,7 @@ fn settled(done: Items<Stmt>, state: StmtState) -> Option<Items<Stmt>>
 {
     match state {
         StmtState::Between => Some(done),
-        _ => None,
+        other => dismiss((done, other)),
     }
 }
 
@@ -769,8 +728,10 @@ pub fn finish(reading: StmtReading) -> Option<Items<Stmt>>
     let StmtReading { stack, done, state } = reading;
     let whole = settled(done, state);
     if !stack.is_empty() {
+        drop((stack, whole));
         return None;
     }
+    drop(stack);
     whole
 }
 

@@ -8,49 +8,52 @@ ghost use Rattle.ac_proof.specs.Rules.{IsInstance};
 ghost use Rattle.ac_proof.specs.Linear.{next};
 ghost use Rattle.ac_proof.specs.Checked.{goal_of};
 
+use crate::premises::{are_none, lone};
 use crate::tree::ProofTree;
 use ac_logic::{Formula, Term, same_term};
 
 pub fn is_eq_le(goal: &Formula, premises: &[ProofTree]) -> bool
     ensures { IsTrue result ↔ IsInstance [] EqLe goal.now (map goal_of premises.now) }
 {
-    let Formula::Le(u, v) = goal else {
+    let Some(p) = lone(premises) else {
         return false
     };
-    let [p] = premises else { return false };
-    let Formula::Eq(s, t) = p.goal.get() else {
+    let Formula::Eq(s, t) = p else { return false };
+    is_order(goal, s.get(), t.get()) || is_order(goal, t.get(), s.get())
+}
+
+/// Whether the formula is `s <= t`.
+fn is_order(formula: &Formula, s: &Term, t: &Term) -> bool
+    ensures { IsTrue result ↔ (formula.now ≡ Le s.now t.now) }
+{
+    let Formula::Le(u, v) = formula else {
         return false
     };
-    if same_term(u.get(), s.get()) && same_term(v.get(), t.get()) {
-        return true;
-    }
-    same_term(u.get(), t.get()) && same_term(v.get(), s.get())
+    same_term(u.get(), s) && same_term(v.get(), t)
 }
 
 pub fn is_le_total(goal: &Formula, premises: &[ProofTree]) -> bool
     ensures { IsTrue result ↔ IsInstance [] LeTotal goal.now (map goal_of premises.now) }
 {
-    let [] = premises else { return false };
     let Formula::Or(first, second) = goal else {
         return false
     };
     let Formula::Le(s, t) = first.get() else {
         return false
     };
-    is_less(second.get(), t.get(), s.get())
+    are_none(premises) && is_less(second.get(), t.get(), s.get())
 }
 
 pub fn is_eq_split(goal: &Formula, premises: &[ProofTree]) -> bool
     ensures { IsTrue result ↔ IsInstance [] EqSplit goal.now (map goal_of premises.now) }
 {
-    let [] = premises else { return false };
     let Formula::Or(first, rest) = goal else {
         return false
     };
     let Formula::Eq(s, t) = first.get() else {
         return false
     };
-    is_apart(rest.get(), s.get(), t.get())
+    are_none(premises) && is_apart(rest.get(), s.get(), t.get())
 }
 
 /// Whether the formula is `s + 1 <= t or t + 1 <= s`.

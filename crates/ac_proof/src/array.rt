@@ -7,13 +7,13 @@ ghost use Rattle.ac_proof.specs.declared.rule.Rule.TheVariants.{ReadPut, ReadSam
 ghost use Rattle.ac_proof.specs.Rules.{IsInstance};
 ghost use Rattle.ac_proof.specs.Checked.{goal_of};
 
+use crate::premises::{are_none, both};
 use crate::tree::ProofTree;
 use ac_logic::{ArrayTerm, Formula, Term, same, same_array, same_term};
 
 pub fn is_read_put(goal: &Formula, premises: &[ProofTree]) -> bool
     ensures { IsTrue result ↔ IsInstance [] ReadPut goal.now (map goal_of premises.now) }
 {
-    let [] = premises else { return false };
     let Formula::Or(new, old) = goal else {
         return false
     };
@@ -29,7 +29,8 @@ pub fn is_read_put(goal: &Formula, premises: &[ProofTree]) -> bool
     let ArrayTerm::Put(a, i, j, v) = put.get() else {
         return false
     };
-    same_term(value.get(), v.get())
+    are_none(premises)
+        && same_term(value.get(), v.get())
         && is_same_cell(here.get(), i.get(), j.get(), k.get(), l.get())
         && is_old_cell(old.get(), here.get(), cell.get(), a.get(), k.get(), l.get())
 }
@@ -120,6 +121,8 @@ pub fn is_read_same(goal: &Formula, premises: &[ProofTree]) -> bool
 fn are_equations(premises: &[ProofTree], i: &Term, k: &Term, j: &Term, l: &Term) -> bool
     ensures { IsTrue result ↔ (map goal_of premises.now ≡ Eq i.now k.now ∷ Eq j.now l.now ∷ []) }
 {
-    let [p, q] = premises else { return false };
-    is_equation(p.goal.get(), i, k) && is_equation(q.goal.get(), j, l)
+    let Some((p, q)) = both(premises) else {
+        return false
+    };
+    is_equation(p, i, k) && is_equation(q, j, l)
 }

@@ -19,6 +19,7 @@ mod known;
 mod law;
 mod linear;
 mod opening;
+mod premises;
 mod propositional;
 mod quantifier;
 mod rule;

@@ -27,7 +27,7 @@ fn a_program_is_printed_in_the_layout(rt: HostRuntime) -> Result<(), Fail> {
 }
 
 #[test]
-#[tactic(auto, using(crate::proofs::Counted::few_nodes))]
+#[tactic(auto, using(ac_parse::proofs::Counted::few_nodes))]
 fn an_assignment_stands_in_the_body_before_its_index_and_value(
     rt: HostRuntime,
 ) -> Result<(), Fail> {

@@ -1,4 +1,5 @@
 use Rattle.std.proofs.Common.{◌≡◌, subst, sym, refl}
+use Rattle.std.specs.Prelude.{IfOk}
 use Rattle.ac_expression_reader.specs.ReadCondition.{value_at}
 use Rattle.ac_expression_reader.proofs.Stacks.{is_empty, is_open}
 use Rattle.ac_expression_reader.proofs.condition.finish.Goals as goal
@@ -8,4 +9,4 @@ returns-then-not-is_empty c = is_open _ c.args.reading.stack (λ k. value_at k c
 
 pub returns : goal.returns
 returns c =
-    subst (λ k. c.in_ok-whole.whole ≡ value_at k c.args.reading.state) (sym (is_empty _ _ c.if-not-is_empty.false c.is_empty.ensures)) c.in_ok-whole.ensures
+    subst (λ k. IfOk c.end.result (λ r. r ≡ value_at k c.args.reading.state)) (sym (is_empty _ _ c.if-not-is_empty.false c.is_empty.ensures)) c.end.ensures

@@ -1,4 +1,4 @@
-use Rattle.std.proofs.Common.{◌≡◌, ◌≤◌, length, refl, sym, ◌∙◌, ap, subst, arith, Ok, Err, Some, None}
+use Rattle.std.proofs.Common.{length, refl, sym, ◌∙◌, ap, subst, arith}
 use Rattle.ac_numbering.specs.Numbers.{NumbersProgram}
 use Rattle.ac_parse.specs.ReadTokens.{read_all}
 use Rattle.ac_tokens.specs.TokenFaults.{IsTokenized}

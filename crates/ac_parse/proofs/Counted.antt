@@ -1,4 +1,4 @@
--- A program that is parsed has fewer nodes than 32 bits count.
+-- A program that is parsed has fewer nodes than 32 bits count, which `positions` asks for.
 use Rattle.std.proofs.Common.{◌≡◌, ℕ, ◌<◌, ◌≤◌, List, arith}
 use Rattle.ac_tree.specs.declared.program.Program.{Program}
 use Rattle.ac_tree.specs.Numbering.{program_nodes}

@@ -1,2 +1,0 @@
--- Lemmas on what is parsed.
-pub mod Counted
