@@ -28,7 +28,7 @@ use Rattle.ac_policy.specs.Sites.{expr_sites, cond_sites, sites_of}
 use Rattle.ac_policy.specs.Terms.{term_of}
 use Rattle.ac_conditions.proofs.Parts.{split}
 use Rattle.ac_conditions.specs.Goals.{conjoined, goal_if, under, labelled_need, site_goal, sites_goal, cond_goal}
-use Rattle.ac_conditions.specs.KindsFit.{cond_lefts, list_lefts, FitsKind, KindFits}
+use Rattle.ac_conditions.specs.KindsFit.{cond_lefts, list_lefts, KindFits}
 use Rattle.ac_conditions.specs.Opened.{hidden, cond_shape, cond_child, formula_shape, formula_child, term_shape, term_child}
 use Rattle.ac_conditions.specs.Preconditions.{joined_onto, joined, before_changes, past_barrier}
 use Rattle.ac_conditions.specs.Tests.{labelled, relation, formula_of}
@@ -94,9 +94,10 @@ labels_stay cs (Implication f g) = λ d. labels_stay cs f d ++ labels_stay cs g 
 labels_stay cs (Every f) = labels_stay cs f
 labels_stay cs (Labelled l f) = λ d. l ∷ labels_stay cs f d
 
-module _ (p : Program) where
+-- Each label of a formula fits, by its parts; what it is for a label to fit is left open.
+module _ (fits : Label → Type 0) where
   abbrev pub Fit : Formula → Type 0
-  Fit f = (l : Label) → IsListed (labels_of f) l → KindFits p l
+  Fit f = (l : Label) → IsListed (labels_of f) l → fits l
 
   abbrev pub FitIf : Option Formula → Type 0
   FitIf None = Unit {0}
@@ -105,16 +106,16 @@ module _ (p : Program) where
   pub bare_fits : (f : Formula) → IsUnlabelled f → Fit f
   bare_fits f h l i = absurd (subst (λ (ls : List Label). IsListed ls l) h i)
 
-  pub labelled_fits : (kind : LabelKind) (n : NodeId) (f : Formula) → FitsKind p kind n → Fit f → Fit (labelled kind n f)
+  pub labelled_fits : (kind : LabelKind) (n : NodeId) (f : Formula) → fits (record { kind = kind; node = n }) → Fit f → Fit (labelled kind n f)
   unfolding hidden formula_shape formula_child
-  labelled_fits kind n f h k l (inl e) = subst (λ (m : Label). KindFits p m) (sym e) h
+  labelled_fits kind n f h k l (inl e) = subst (λ (m : Label). fits m) (sym e) h
   labelled_fits kind n f h k l (inr i) = k l i
 
   pub implied_fits : (f g : Formula) → Fit f → Fit g → Fit (Implication f g)
   unfolding hidden formula_shape formula_child
   implied_fits f g h k l i = elim (split (labels_of f) (labels_of g) l i) [ inl j ↦ h l j | inr j ↦ k l j ]
 
-  both_fit : (f g : Formula) → Fit f → Fit g → Fit (And f g)
+  pub both_fit : (f g : Formula) → Fit f → Fit g → Fit (And f g)
   unfolding hidden formula_shape formula_child
   both_fit f g h k l i = elim (split (labels_of f) (labels_of g) l i) [ inl j ↦ h l j | inr j ↦ k l j ]
 
@@ -124,7 +125,7 @@ module _ (p : Program) where
   conjoined_fits (Some f) None h k = h
   conjoined_fits (Some f) (Some g) h k = both_fit f g h k
 
-  pub under_fits : (kind : LabelKind) (n : NodeId) (f : Formula) (g : Option Formula) → FitsKind p kind n → IsUnlabelled f → FitIf g → FitIf (under kind n f g)
+  pub under_fits : (kind : LabelKind) (n : NodeId) (f : Formula) (g : Option Formula) → fits (record { kind = kind; node = n }) → IsUnlabelled f → FitIf g → FitIf (under kind n f g)
   unfolding hidden formula_shape formula_child
   under_fits kind n f None h b k = tt
   under_fits kind n f (Some g) h b k = implied_fits (labelled kind n f) g (labelled_fits kind n f h (bare_fits f b)) k
@@ -133,41 +134,41 @@ module _ (p : Program) where
   goal_fits true f h = h
   goal_fits false f h = tt
 
-  pub changed_fits : (n : NodeId) (changes : List Change) (g : Option Formula) → FitsKind p label.Set n → FitIf g → FitIf (before_changes n changes g)
+  pub changed_fits : (n : NodeId) (changes : List Change) (g : Option Formula) → fits (record { kind = label.Set; node = n }) → FitIf g → FitIf (before_changes n changes g)
   changed_fits n changes None h k = tt
-  changed_fits n changes (Some g) h k = labelled_fits label.Set n (formula_after changes g) h (subst (λ (ls : List Label). (l : Label) → IsListed ls l → KindFits p l) (sym (labels_stay changes g)) k)
+  changed_fits n changes (Some g) h k = labelled_fits label.Set n (formula_after changes g) h (subst (λ (ls : List Label). (l : Label) → IsListed ls l → fits l) (sym (labels_stay changes g)) k)
 
-  pub barrier_fits : (t : Target) (n : NodeId) (fs : List Formula) (g : Option Formula) → FitsKind p label.Barrier n → AreUnlabelled fs → FitIf g → FitIf (past_barrier t n fs g)
+  pub barrier_fits : (t : Target) (n : NodeId) (fs : List Formula) (g : Option Formula) → fits (record { kind = label.Barrier; node = n }) → AreUnlabelled fs → FitIf g → FitIf (past_barrier t n fs g)
   barrier_fits t n [] g h b k = k
   barrier_fits t n (f ∷ fs) g h b k = goal_fits (is_barrier t n) _ (labelled_fits label.Barrier n (joined (f ∷ fs)) h (bare_fits (joined (f ∷ fs)) (joined_bare (f ∷ fs) b)))
 
-  -- sites of the program
-  module _ (need : Site → Option Formula) (t : Target) (bare : (s : Site) → IsListed (sites_of p) s → IsUnlabelledIf (need s)) where
-    pub site_fits : (s : Site) → IsListed (sites_of p) s → FitIf (site_goal need t s)
-    site_fits s h = by (is_site t s.node) (need s) (bare s h)
-      where
-        by : (b : Bool) (o : Option Formula) → IsUnlabelledIf o → FitIf (if b then labelled_need s.node o else None)
-        by true None k = tt
-        by true (Some f) k = labelled_fits label.Need s.node f (s, h, refl) (bare_fits f k)
-        by false o k = tt
+-- The labels of goals fit their kinds, at sites of the program.
+module _ (p : Program) (need : Site → Option Formula) (t : Target) (bare : (s : Site) → IsListed (sites_of p) s → IsUnlabelledIf (need s)) where
+  pub site_fits : (s : Site) → IsListed (sites_of p) s → FitIf (KindFits p) (site_goal need t s)
+  site_fits s h = by (is_site t s.node) (need s) (bare s h)
+    where
+      by : (b : Bool) (o : Option Formula) → IsUnlabelledIf o → FitIf (KindFits p) (if b then labelled_need s.node o else None)
+      by true None k = tt
+      by true (Some f) k = labelled_fits (KindFits p) label.Need s.node f (s, h, refl) (bare_fits (KindFits p) f k)
+      by false o k = tt
 
-    pub sites_fit : (ss : List Site) → Sub ss (sites_of p) → FitIf (sites_goal need t ss)
-    sites_fit [] f = tt
-    sites_fit (s ∷ ss) f = conjoined_fits (site_goal need t s) (sites_goal need t ss) (site_fits s (f s (inl refl))) (sites_fit ss (λ x h. f x (inr h)))
+  pub sites_fit : (ss : List Site) → Sub ss (sites_of p) → FitIf (KindFits p) (sites_goal need t ss)
+  sites_fit [] f = tt
+  sites_fit (s ∷ ss) f = conjoined_fits (KindFits p) (site_goal need t s) (sites_goal need t ss) (site_fits s (f s (inl refl))) (sites_fit ss (λ x h. f x (inr h)))
 
-    pub cond_fits : (c : CondKind) → Sub (cond_sites p c) (sites_of p) → Sub (cond_lefts c) (list_lefts p.body) → FitIf (cond_goal need t p c)
-    unfolding hidden cond_shape cond_child formula_shape formula_child
-    cond_fits cond.True f g = tt
-    cond_fits cond.False f g = tt
-    cond_fits (cond.Rel op a b) f g = sites_fit (expr_sites p a.node.id a.kind ++ expr_sites p b.node.id b.kind) f
-    cond_fits (Negation n c) f g = cond_fits c f g
-    cond_fits (Conjunction n c m d) f g =
-        conjoined_fits (cond_goal need t p c) (under label.Guard n.id (formula_of p c) (cond_goal need t p d))
-        (cond_fits c (λ x h. f x (in-left (cond_sites p c) (cond_sites p d) x h)) (λ x h. g x (inr (in-left (cond_lefts c) (cond_lefts d) x h))))
-        (under_fits label.Guard n.id (formula_of p c) (cond_goal need t p d) (g n.id (inl refl)) (test_bare p c)
-        (cond_fits d (λ x h. f x (in-right (cond_sites p c) (cond_sites p d) x h)) (λ x h. g x (inr (in-right (cond_lefts c) (cond_lefts d) x h)))))
-    cond_fits (Disjunction n c m d) f g =
-        conjoined_fits (cond_goal need t p c) (under label.Guard n.id (Not (formula_of p c)) (cond_goal need t p d))
-        (cond_fits c (λ x h. f x (in-left (cond_sites p c) (cond_sites p d) x h)) (λ x h. g x (inr (in-left (cond_lefts c) (cond_lefts d) x h))))
-        (under_fits label.Guard n.id (Not (formula_of p c)) (cond_goal need t p d) (g n.id (inl refl)) (not_bare (formula_of p c) (test_bare p c))
-        (cond_fits d (λ x h. f x (in-right (cond_sites p c) (cond_sites p d) x h)) (λ x h. g x (inr (in-right (cond_lefts c) (cond_lefts d) x h)))))
+  pub cond_fits : (c : CondKind) → Sub (cond_sites p c) (sites_of p) → Sub (cond_lefts c) (list_lefts p.body) → FitIf (KindFits p) (cond_goal need t p c)
+  unfolding hidden cond_shape cond_child formula_shape formula_child
+  cond_fits cond.True f g = tt
+  cond_fits cond.False f g = tt
+  cond_fits (cond.Rel op a b) f g = sites_fit (expr_sites p a.node.id a.kind ++ expr_sites p b.node.id b.kind) f
+  cond_fits (Negation n c) f g = cond_fits c f g
+  cond_fits (Conjunction n c m d) f g =
+      conjoined_fits (KindFits p) (cond_goal need t p c) (under label.Guard n.id (formula_of p c) (cond_goal need t p d))
+      (cond_fits c (λ x h. f x (in-left (cond_sites p c) (cond_sites p d) x h)) (λ x h. g x (inr (in-left (cond_lefts c) (cond_lefts d) x h))))
+      (under_fits (KindFits p) label.Guard n.id (formula_of p c) (cond_goal need t p d) (g n.id (inl refl)) (test_bare p c)
+      (cond_fits d (λ x h. f x (in-right (cond_sites p c) (cond_sites p d) x h)) (λ x h. g x (inr (in-right (cond_lefts c) (cond_lefts d) x h)))))
+  cond_fits (Disjunction n c m d) f g =
+      conjoined_fits (KindFits p) (cond_goal need t p c) (under label.Guard n.id (Not (formula_of p c)) (cond_goal need t p d))
+      (cond_fits c (λ x h. f x (in-left (cond_sites p c) (cond_sites p d) x h)) (λ x h. g x (inr (in-left (cond_lefts c) (cond_lefts d) x h))))
+      (under_fits (KindFits p) label.Guard n.id (Not (formula_of p c)) (cond_goal need t p d) (g n.id (inl refl)) (not_bare (formula_of p c) (test_bare p c))
+      (cond_fits d (λ x h. f x (in-right (cond_sites p c) (cond_sites p d) x h)) (λ x h. g x (inr (in-right (cond_lefts c) (cond_lefts d) x h)))))

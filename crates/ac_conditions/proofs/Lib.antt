@@ -13,4 +13,5 @@ pub mod OneOrder
 pub mod BarriersOfCuts
 pub mod NodesMarked
 pub mod LabelsFit
+pub mod HypothesesFit
 pub mod ConditionsFit
