@@ -4,7 +4,6 @@ pub mod Truth
 pub mod Trees
 pub mod Contexts
 pub mod Bodies
-pub mod Puts
 pub mod ReadableBodies
 pub mod Readability
 pub mod Gatherings

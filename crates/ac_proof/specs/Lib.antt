@@ -6,6 +6,5 @@ pub mod Checked
 pub mod Soundness
 pub mod Known
 pub mod Walk
-pub mod Depth
 pub mod Gathering
 pub mod RuleNames

@@ -18,7 +18,6 @@ mod instance;
 mod known;
 mod law;
 mod linear;
-mod opening;
 mod premises;
 mod propositional;
 mod quantifier;

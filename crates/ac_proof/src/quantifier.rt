@@ -10,9 +10,9 @@ ghost use Rattle.ac_proof.specs.New.{IsNew};
 ghost use Rattle.ac_proof.specs.Rules.{IsInstance};
 ghost use Rattle.ac_proof.specs.Checked.{goal_of};
 
-use crate::opening::is_opening_of;
 use crate::tree::ProofTree;
 use ac_logic::{Formula, Sym, Term, is_absent, is_term_closed};
+use ac_opening::is_opening_of;
 use ac_shared::Shared;
 
 pub fn is_all_intro(

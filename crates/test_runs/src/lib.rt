@@ -1,7 +1,5 @@
-//! Tests of runs, and of the cuts, pairs and walks of a program, against rows that were worked out by hand. Nothing else stands here.
+//! Tests of runs, against rows that were worked out by hand. Nothing else stands here.
 #![tactic(auto)]
 
-#[cfg(test)]
-mod control_flow;
 #[cfg(test)]
 mod steps;

@@ -6,6 +6,7 @@ use ac_stepper::{Config, StartFault, StepFault, Stepped, begin_run};
 use ac_tree::{Name, Program};
 use sqlite_items::Items;
 use std::alloc::{AllocError, Global};
+use std::process::Abort;
 use std::test::Fail;
 
 /// A program, the numbers of its names at the start, how its steps end, and its trace behind them.
@@ -166,9 +167,13 @@ fn trace_text(alloc: Global, trace: &[Event]) -> Result<String, AllocError> {
         if !text.is_empty() {
             text.push(' ')?;
         }
-        text.push_str(event_text(alloc, event)?.as_str())?;
+        push_event(alloc, &mut text, event)?;
     }
     Ok(text)
+}
+
+fn push_event(alloc: Global, text: &mut String, event: &Event) -> Result<(), AllocError> {
+    text.push_str(event_text(alloc, event)?.as_str())
 }
 
 fn event_text(alloc: Global, event: &Event) -> Result<String, AllocError> {
@@ -209,16 +214,46 @@ fn numbers_text(alloc: Global, numbers: &[i128]) -> Result<String, AllocError> {
 
 #[test]
 fn steps_end_and_tell_what_they_do_as_worked_by_hand(rt: HostRuntime) -> Result<(), Fail> {
-    let alloc = rt.alloc();
     for row in ROWS {
-        let program = parse(alloc, row.program.as_bytes())?;
-        let start = start_of(alloc, row.start)?;
-        let mut run = begun(alloc, &program, &start)?;
-        let endings = endings(alloc, &mut run, row.endings)?;
-        assert_eq!(rt; endings.as_str(), row.endings);
-        let trace = trace_text(alloc, run.trace())?;
-        assert_eq!(rt; trace.as_str(), row.trace);
+        let program = parse(rt.alloc(), row.program.as_bytes())?;
+        let start = start_of(rt.alloc(), row.start)?;
+        runs_as_its_row_says(&rt, rt.alloc(), &program, &start, row)?;
     }
+    Ok(())
+}
+
+fn runs_as_its_row_says<R: Abort>(
+    rt: &R,
+    alloc: Global,
+    program: &Program,
+    start: &Start,
+    row: Row,
+) -> Result<(), Fail> {
+    let mut run = begun(alloc, program, start)?;
+    ends_as_worked(rt, alloc, &mut run, row.endings)?;
+    tells_as_worked(rt, alloc, run.trace(), row.trace)?;
+    Ok(())
+}
+
+fn ends_as_worked<R: Abort>(
+    rt: &R,
+    alloc: Global,
+    run: &mut Config<'_>,
+    words: &str,
+) -> Result<(), AllocError> {
+    let endings = endings(alloc, run, words)?;
+    assert_eq!(rt; endings.as_str(), words);
+    Ok(())
+}
+
+fn tells_as_worked<R: Abort>(
+    rt: &R,
+    alloc: Global,
+    trace: &[Event],
+    expected: &str,
+) -> Result<(), AllocError> {
+    let text = trace_text(alloc, trace)?;
+    assert_eq!(rt; text.as_str(), expected);
     Ok(())
 }
 
@@ -253,14 +288,18 @@ const MISFITS: [(&str, &[(&str, &[i128])], u32); 7] = [
 fn a_start_that_misfits_is_refused_at_the_first_entry_that_does(
     rt: HostRuntime,
 ) -> Result<(), Fail> {
-    let alloc = rt.alloc();
     for (text, entries, first) in MISFITS {
-        let program = parse(alloc, text.as_bytes())?;
-        let start = start_of(alloc, entries)?;
-        match begun(alloc, &program, &start) {
-            Err(StartFault::Fit { index }) => assert_eq!(rt; index, first),
-            _ => return Err(Fail::new("no misfit")),
-        }
+        let program = parse(rt.alloc(), text.as_bytes())?;
+        let start = start_of(rt.alloc(), entries)?;
+        assert_eq!(rt; misfit(rt.alloc(), &program, &start), Some(first));
     }
     Ok(())
+}
+
+/// The number of the first entry that misfits.
+fn misfit(alloc: Global, program: &Program, start: &Start) -> Option<u32> {
+    match begun(alloc, program, start) {
+        Err(StartFault::Fit { index }) => Some(index),
+        _ => None,
+    }
 }

@@ -1,5 +1,5 @@
 //! Which tokens may come behind which beginnings of a program.
-use super::{KINDS, Outcome, outcome_of, stands_for};
+use crate::outcome::{KINDS, Outcome, outcome_of, stands_for};
 use std::alloc::{AllocError, Global};
 use std::process::Abort;
 use std::test::Fail;

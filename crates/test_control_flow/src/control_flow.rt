@@ -5,6 +5,7 @@ use ac_parse::parse;
 use ac_tree::{Cut, NodeId, Pair, Place, Program, Target};
 use ac_walk::walk;
 use std::alloc::{AllocError, Global};
+use std::process::Abort;
 use std::test::Fail;
 
 /// A loop that writes each cell of an array, and a read behind it.
@@ -86,16 +87,44 @@ const ROWS: [Row; 5] = [
 fn each_cut_is_paired_with_what_control_reaches_before_the_next(
     rt: HostRuntime,
 ) -> Result<(), Fail> {
-    let alloc = rt.alloc();
     for row in ROWS {
-        let program = parse(alloc, row.program.as_bytes())?;
-        let cuts = cuts(alloc, &program, row.places)?;
-        let text = cuts_text(alloc, cuts.as_slice())?;
-        assert_eq!(rt; text.as_str(), row.cuts);
-        let pairs = pairs(alloc, &program, cuts.as_slice(), row.subject)?;
-        let text = pairs_text(alloc, pairs.as_slice())?;
-        assert_eq!(rt; text.as_str(), row.pairs);
+        let program = parse(rt.alloc(), row.program.as_bytes())?;
+        has_the_cuts_and_pairs_of_its_row(&rt, rt.alloc(), &program, row)?;
     }
+    Ok(())
+}
+
+fn has_the_cuts_and_pairs_of_its_row<R: Abort>(
+    rt: &R,
+    alloc: Global,
+    program: &Program,
+    row: Row,
+) -> Result<(), AllocError> {
+    let cuts = cuts(alloc, program, row.places)?;
+    are_cuts(rt, alloc, cuts.as_slice(), row.cuts)?;
+    let pairs = pairs(alloc, program, cuts.as_slice(), row.subject)?;
+    are_pairs(rt, alloc, pairs.as_slice(), row.pairs)
+}
+
+fn are_cuts<R: Abort>(
+    rt: &R,
+    alloc: Global,
+    cuts: &[Cut],
+    expected: &str,
+) -> Result<(), AllocError> {
+    let text = cuts_text(alloc, cuts)?;
+    assert_eq!(rt; text.as_str(), expected);
+    Ok(())
+}
+
+fn are_pairs<R: Abort>(
+    rt: &R,
+    alloc: Global,
+    pairs: &[Pair],
+    expected: &str,
+) -> Result<(), AllocError> {
+    let text = pairs_text(alloc, pairs)?;
+    assert_eq!(rt; text.as_str(), expected);
     Ok(())
 }
 
@@ -105,7 +134,7 @@ fn cuts_text(alloc: Global, cuts: &[Cut]) -> Result<String, AllocError> {
         if !text.is_empty() {
             text.push_str(", ")?;
         }
-        text.push_str(cut_text(alloc, *cut)?.as_str())?;
+        push_cut(alloc, &mut text, *cut)?;
     }
     Ok(text)
 }
@@ -116,34 +145,43 @@ fn pairs_text(alloc: Global, pairs: &[Pair]) -> Result<String, AllocError> {
         if !text.is_empty() {
             text.push_str(", ")?;
         }
-        text.push_str(cut_text(alloc, pair.cut)?.as_str())?;
-        text.push_str(" to ")?;
-        text.push_str(target_text(alloc, pair.target)?.as_str())?;
+        push_pair(alloc, &mut text, *pair)?;
     }
     Ok(text)
 }
 
-fn cut_text(alloc: Global, cut: Cut) -> Result<String, AllocError> {
+fn push_pair(alloc: Global, text: &mut String, pair: Pair) -> Result<(), AllocError> {
+    push_cut(alloc, text, pair.cut)?;
+    text.push_str(" to ")?;
+    push_target(alloc, text, pair.target)
+}
+
+fn push_cut(alloc: Global, text: &mut String, cut: Cut) -> Result<(), AllocError> {
     match cut {
-        Cut::Start => String::from_str(alloc, "start"),
-        Cut::Head(node) => placed(alloc, "head", node),
-        Cut::Exit(node) => placed(alloc, "exit", node),
-        Cut::After(node) => placed(alloc, "after", node),
+        Cut::Start => text.push_str("start"),
+        Cut::Head(node) => push_placed(alloc, text, "head", node),
+        Cut::Exit(node) => push_placed(alloc, text, "exit", node),
+        Cut::After(node) => push_placed(alloc, text, "after", node),
     }
 }
 
-fn target_text(alloc: Global, target: Target) -> Result<String, AllocError> {
+fn push_target(alloc: Global, text: &mut String, target: Target) -> Result<(), AllocError> {
     match target {
-        Target::Entry(node) => placed(alloc, "entry", node),
-        Target::Keep(node) => placed(alloc, "keep", node),
-        Target::Barrier(node) => placed(alloc, "barrier", node),
-        Target::Site(node) => placed(alloc, "site", node),
+        Target::Entry(node) => push_placed(alloc, text, "entry", node),
+        Target::Keep(node) => push_placed(alloc, text, "keep", node),
+        Target::Barrier(node) => push_placed(alloc, text, "barrier", node),
+        Target::Site(node) => push_placed(alloc, text, "site", node),
     }
 }
 
-fn placed(alloc: Global, word: &str, node: NodeId) -> Result<String, AllocError> {
+fn push_placed(
+    alloc: Global,
+    text: &mut String,
+    word: &str,
+    node: NodeId,
+) -> Result<(), AllocError> {
     let number = node.0;
-    format!(in alloc; "{word} {number}")
+    text.push_str(format!(in alloc; "{word} {number}")?.as_str())
 }
 
 /// A program with the statements that have a barrier, a pair, and the nodes that its path visits.
@@ -279,16 +317,25 @@ const WALKS: [Walk; 13] = [
 
 #[test]
 fn a_walk_names_what_lies_on_the_paths_of_a_pair(rt: HostRuntime) -> Result<(), Fail> {
-    let alloc = rt.alloc();
     for row in WALKS {
-        let program = parse(alloc, row.program.as_bytes())?;
-        let pair = Pair {
-            cut: row.cut,
-            target: row.target,
-        };
-        let nodes = visited(alloc, &program, row.barriers, pair)?;
-        assert_eq!(rt; nodes.as_slice(), row.nodes);
+        let program = parse(rt.alloc(), row.program.as_bytes())?;
+        visits_the_nodes_of_its_row(&rt, rt.alloc(), &program, row)?;
     }
+    Ok(())
+}
+
+fn visits_the_nodes_of_its_row<R: Abort>(
+    rt: &R,
+    alloc: Global,
+    program: &Program,
+    row: Walk,
+) -> Result<(), AllocError> {
+    let pair = Pair {
+        cut: row.cut,
+        target: row.target,
+    };
+    let nodes = visited(alloc, program, row.barriers, pair)?;
+    assert_eq!(rt; nodes.as_slice(), row.nodes);
     Ok(())
 }
 

@@ -1,5 +1,5 @@
 //! Each limit at its number, and one past it.
-use super::{
+use crate::outcome::{
     BYTES_LIMIT, LITERAL_LIMIT, NAME_LIMIT, NESTING_LIMIT, NODES_LIMIT, OPERATORS_LIMIT, Outcome,
     Repeated, comes_to, outcome_of, repeated,
 };

@@ -1,10 +1,4 @@
-//! What texts of programs come to, against tables that were made by hand from the grammar and the limits.
-mod beginnings;
-mod bytes;
-mod changes;
-mod limits;
-mod prints;
-
+//! What texts of programs come to, and the texts of tables.
 use ac_parse::{ParseFault, parse};
 use ac_tree::LimitKind;
 use std::alloc::{AllocError, Global};
@@ -12,7 +6,7 @@ use std::process::Abort;
 
 /// What a text is, or why and where it is no program.
 #[derive(Clone, Copy, Debug, PartialEq, Eq)]
-enum Outcome {
+pub enum Outcome {
     Whole,
     NotUtf8(usize),
     Token(usize),
@@ -21,19 +15,19 @@ enum Outcome {
     OutOfMemory,
 }
 
-const LITERAL_LIMIT: Outcome = Outcome::Limit(LimitKind::Literal, 1_000_000_000_000);
+pub const LITERAL_LIMIT: Outcome = Outcome::Limit(LimitKind::Literal, 1_000_000_000_000);
 
-const NAME_LIMIT: Outcome = Outcome::Limit(LimitKind::NameLength, 32);
+pub const NAME_LIMIT: Outcome = Outcome::Limit(LimitKind::NameLength, 32);
 
-const NESTING_LIMIT: Outcome = Outcome::Limit(LimitKind::Nesting, 64);
+pub const NESTING_LIMIT: Outcome = Outcome::Limit(LimitKind::Nesting, 64);
 
-const OPERATORS_LIMIT: Outcome = Outcome::Limit(LimitKind::Operators, 256);
+pub const OPERATORS_LIMIT: Outcome = Outcome::Limit(LimitKind::Operators, 256);
 
-const NODES_LIMIT: Outcome = Outcome::Limit(LimitKind::Nodes, 50_000);
+pub const NODES_LIMIT: Outcome = Outcome::Limit(LimitKind::Nodes, 50_000);
 
-const BYTES_LIMIT: Outcome = Outcome::Limit(LimitKind::ProgramBytes, 1_048_576);
+pub const BYTES_LIMIT: Outcome = Outcome::Limit(LimitKind::ProgramBytes, 1_048_576);
 
-fn outcome_of(alloc: Global, bytes: &[u8]) -> Outcome {
+pub fn outcome_of(alloc: Global, bytes: &[u8]) -> Outcome {
     match parse(alloc, bytes) {
         Ok(_) => Outcome::Whole,
         Err(ParseFault::NotUtf8 { at }) => Outcome::NotUtf8(at as usize),
@@ -48,7 +42,7 @@ fn outcome_of(alloc: Global, bytes: &[u8]) -> Outcome {
 }
 
 /// One token of each kind.
-const KINDS: &str =
+pub const KINDS: &str =
     "q 7 all and as begin const do else end false for if implies init input not or put skip then to true use var while ( ) [ ] { } , ; : := .. + - * = <> < <= > >=";
 
 /// The kinds of tokens that a word of a table stands for. A word in capitals stands for those with which a part begins.
@@ -68,14 +62,14 @@ fn kinds_in(word: &str) -> &str {
 }
 
 /// Whether a word of a table stands for a token, among others.
-fn stands_for(word: &str, token: &str) -> bool {
+pub fn stands_for(word: &str, token: &str) -> bool {
     kinds_in(word).split_whitespace().any(|kind| kind == token)
 }
 
 /// A text: how it begins, a part that stands behind that so many times, and how it ends.
-type Repeated<'a> = (&'a str, &'a str, u64, &'a str);
+pub type Repeated<'a> = (&'a str, &'a str, u64, &'a str);
 
-fn repeated(
+pub fn repeated(
     alloc: Global,
     (before, part, count, after): Repeated<'_>,
 ) -> Result<String, AllocError> {
@@ -87,7 +81,7 @@ fn repeated(
     Ok(text)
 }
 
-fn comes_to<R: Abort>(
+pub fn comes_to<R: Abort>(
     rt: &R,
     alloc: Global,
     parts: Repeated<'_>,

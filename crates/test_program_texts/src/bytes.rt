@@ -1,5 +1,5 @@
 //! Bytes that begin no character or no token, and a million of one byte.
-use super::{LITERAL_LIMIT, NAME_LIMIT, NESTING_LIMIT, Outcome, comes_to, outcome_of};
+use crate::outcome::{LITERAL_LIMIT, NAME_LIMIT, NESTING_LIMIT, Outcome, comes_to, outcome_of};
 use std::test::Fail;
 
 /// Bytes that are no UTF-8 at each kind of place: at the ends, between tokens, inside a word, a name, a sign, a literal and

@@ -4,7 +4,7 @@
 //! is left out, `TWICE` where it is doubled, and the kinds that stand in its place. Behind such changes stands how many
 //! tokens later they are refused, where the end of the text counts as a token, or `@whole` where they leave a program. Every
 //! other change is refused at once: at the token that now stands in the place, or at the second of two.
-use super::{KINDS, Outcome, outcome_of, stands_for};
+use crate::outcome::{KINDS, Outcome, outcome_of, stands_for};
 use std::alloc::{AllocError, Global};
 use std::process::Abort;
 use std::test::Fail;

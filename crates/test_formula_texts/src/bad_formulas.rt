@@ -1,27 +1,8 @@
 //! Texts that are no formula, each with the byte at which none goes on.
-use ac_formula_reader::{FormulaFault, read_formula};
-use ac_logic::Formula;
-use ac_shared::Shared;
+use crate::texts::{formula_of, place_of};
 use std::alloc::{AllocError, Global};
 use std::process::Abort;
 use std::test::Fail;
-
-fn formula_of<R: Abort>(
-    rt: &R,
-    alloc: Global,
-    text: &str,
-) -> Result<Shared<Formula>, FormulaFault> {
-    assert!(rt; text.len() < 1000);
-    read_formula(alloc, text)
-}
-
-/// The byte of a refusal.
-fn place_of(read: Result<Shared<Formula>, FormulaFault>) -> Option<u32> {
-    match read {
-        Err(FormulaFault::At { at }) => Some(at),
-        _ => None,
-    }
-}
 
 /// A formula under a label in pieces, and where the text that ends with each is refused.
 const LABELLED: [(&str, Option<u32>); 22] = [

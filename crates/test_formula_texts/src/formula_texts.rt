@@ -1,34 +1,9 @@
 //! Texts that are read and printed again, and places where none goes on.
+use crate::texts::{formula_of, place_of, term_of};
 use ac_formula_printer::{print_formula, print_term};
-use ac_formula_reader::{FormulaFault, read_formula, read_term};
-use ac_logic::{Change, Formula, LabelKind, Sym, Term, are_changes_closed, labels, substitute};
-use ac_shared::Shared;
+use ac_logic::{Change, LabelKind, Sym, are_changes_closed, labels, substitute};
 use ac_tree::{Name, NodeId};
-use std::alloc::Global;
-use std::process::Abort;
 use std::test::Fail;
-
-fn formula_of<R: Abort>(
-    rt: &R,
-    alloc: Global,
-    text: &str,
-) -> Result<Shared<Formula>, FormulaFault> {
-    assert!(rt; text.len() < 1000);
-    read_formula(alloc, text)
-}
-
-fn term_of<R: Abort>(rt: &R, alloc: Global, text: &str) -> Result<Shared<Term>, FormulaFault> {
-    assert!(rt; text.len() < 1000);
-    read_term(alloc, text)
-}
-
-/// The byte of a refusal.
-fn place_of<T: Drop>(read: Result<T, FormulaFault>) -> Option<u32> {
-    match read {
-        Err(FormulaFault::At { at }) => Some(at),
-        _ => None,
-    }
-}
 
 #[test]
 fn formulas_are_printed_as_they_are_read(rt: HostRuntime) -> Result<(), Fail> {

@@ -1,5 +1,5 @@
-use Rattle.ac_proof.proofs.Puts.{put_at}
-use Rattle.ac_proof.proofs.opening.+is_term_at.Goals as goal
+use Rattle.ac_opening.proofs.Puts.{put_at}
+use Rattle.ac_opening.proofs.opening.+is_term_at.Goals as goal
 
 pub is_array_at-returns-then-is_term_at : goal.is_array_at-returns-then-is_term_at
 is_array_at-returns-then-is_term_at t c d s =

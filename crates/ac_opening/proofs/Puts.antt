@@ -6,7 +6,7 @@ use Rattle.ac_logic.specs.declared.formula.ArrayTerm.{ArrayTerm}
 use Rattle.ac_logic.specs.declared.formula.ArrayTerm.TheVariants.{Put}
 use Rattle.ac_logic.specs.Patterns.{PutOf}
 use Rattle.ac_logic.specs.Opening.{array_at, term_at}
-use Rattle.ac_proof.specs.Opened.{hidden, term_shape, term_child, array_shape, array_child}
+use Rattle.ac_opening.specs.Opened.{hidden, term_shape, term_child, array_shape, array_child}
 
 abbrev written : ArrayTerm → Term → Term
 unfolding hidden term_shape term_child array_shape array_child

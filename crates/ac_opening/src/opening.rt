@@ -1,7 +1,7 @@
 //! Whether a formula is the body of an `all` at a term. Body and formula are walked together, and nothing is made.
 ghost use Rattle.std.specs.Prelude.{◌≡◌, IsTrue, ◌↔◌, ℕ, ◌+◌};
 ghost use Rattle.ac_logic.specs.Opening.{array_at, bound_at, formula_at, opened, term_at};
-ghost use Rattle.ac_proof.specs.Depth.{StandsFor};
+ghost use Rattle.ac_opening.specs.Depth.{StandsFor};
 
 use ac_logic::{ArrayTerm, Formula, Term, same_symbol, same_term};
 

@@ -1,9 +1,0 @@
-//! Tests of texts: formulas, terms and programs, against tables that were made by hand. Nothing else stands here.
-#![tactic(auto)]
-
-#[cfg(test)]
-mod bad_formulas;
-#[cfg(test)]
-mod formula_texts;
-#[cfg(test)]
-mod program_texts;
