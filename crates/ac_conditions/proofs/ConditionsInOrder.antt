@@ -225,7 +225,7 @@ module _ (p : Program) (q : PolicyName) (part : Part) (t : Target) where
       (list_conditions p q part t hs sts behind) (n ∷ inside_stmt st.kind) (nodes_of_list sts)
       (stmt_in hs n st.kind _ _ (barrier_in n hs (part.behind n) (before_list p part t sts behind))) (list_in hs sts behind)
 
-  target_in : IsSublist (pairs_in (conditions_at p q part t)) (each (Start ∷ cuts_at (nodes_of p)) t)
+  pub target_in : IsSublist (pairs_in (conditions_at p q part t)) (each (Start ∷ cuts_at (nodes_of p)) t)
   target_in =
       pairs_join (condition p q part t Start (ranges p p.items) (before_list p part t p.body None)) (list_conditions p q part t (ranges p p.items) p.body None) (One Start) (At (nodes_of p)) (one_in Start _ _)
       (through (pairs_in (list_conditions p q part t (ranges p p.items) p.body None)) (At (nodes_of_list p.body)) (At (nodes_of p)) (list_in (ranges p p.items) p.body None)

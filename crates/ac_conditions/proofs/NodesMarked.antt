@@ -318,10 +318,13 @@ numbers_rise : (count i least : ℕ) → least ≤ i → AreRisingFrom (λ (n : 
 numbers_rise zero i least h = tt
 numbers_rise (suc count) i least h = (h, numbers_rise count (i + 1) (i + 1) (omega arith))
 
-pub needed_marked : (p : Program) (need : Site → Option Formula) → IsNumbered p → AreMarked p need (is_subject (needed_nodes need (sites_of p)))
-needed_marked p need numbered =
-    let apart : AreApart (nodes_of p) = subst (λ (ns : List NodeId). AreApart ns) (sym (numbered_in_preorder p numbered)) (rising_apart (λ (n : NodeId). n.0) 0 (numbers_from 0 (program_nodes p)) (numbers_rise (program_nodes p) 0 0 (omega arith))) in
+pub needed_marked_from : (p : Program) (need : Site → Option Formula) (count : ℕ) → nodes_of p ≡ numbers_from 0 count → AreMarked p need (is_subject (needed_nodes need (sites_of p)))
+needed_marked_from p need count numbers =
+    let apart : AreApart (nodes_of p) = subst (λ (ns : List NodeId). AreApart ns) (sym numbers) (rising_apart (λ (n : NodeId). n.0) 0 (numbers_from 0 count) (numbers_rise count 0 0 (omega arith))) in
     list_marked need p (is_subject (needed_nodes need (sites_of p))) p.body (record {
       told = λ n h. subject_needed need (sites_of p) n.0;
       apart = apart_right (nodes_of_items p.items) (nodes_of_list p.body) apart.1;
     })
+
+pub needed_marked : (p : Program) (need : Site → Option Formula) → IsNumbered p → AreMarked p need (is_subject (needed_nodes need (sites_of p)))
+needed_marked p need numbered = needed_marked_from p need (program_nodes p) (numbered_in_preorder p numbered)

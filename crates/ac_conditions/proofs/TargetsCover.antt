@@ -85,12 +85,12 @@ module _ (p : Program) (q : PolicyName) (part : Part) (t : Target) where
       let g = apart-sites t (cond_sites p c) (cond_sites p d) h in
       none_conjoined (cond_goal part.need t p c) _ (cond_none c g.0) (none_under label.Guard n.id (Not (formula_of p c)) (cond_goal part.need t p d) (cond_none d g.1))
 
-  none_past : (n : NodeId) (fs : List Formula) (behind : Option Formula) → is_barrier t n ≡ false → behind ≡ None → past_barrier t n fs behind ≡ None
+  pub none_past : (n : NodeId) (fs : List Formula) (behind : Option Formula) → is_barrier t n ≡ false → behind ≡ None → past_barrier t n fs behind ≡ None
   none_past n [] behind h e = e
   none_past n (f ∷ fs) behind h e = no_goal (is_barrier t n) _ h
 
   -- the barrier of a statement is among its targets
-  apart_barrier : (n : NodeId) (k : StmtKind) → Apart t (stmt_targets p n k) → is_barrier t n ≡ false
+  pub apart_barrier : (n : NodeId) (k : StmtKind) → Apart t (stmt_targets p n k) → is_barrier t n ≡ false
   apart_barrier n (Set x e) h = h.0
   apart_barrier n (Put x at e) h = h.0
   apart_barrier n (If' test _ y _ z) h = h.0
@@ -100,7 +100,7 @@ module _ (p : Program) (q : PolicyName) (part : Part) (t : Target) where
   apart_barrier n Skip h = h.0
 
   mutual
-    before_none : (n : NodeId) (k : StmtKind) (behind : Option Formula) → Apart t (stmt_targets p n k) → behind ≡ None → before p part t n k behind ≡ None
+    pub before_none : (n : NodeId) (k : StmtKind) (behind : Option Formula) → Apart t (stmt_targets p n k) → behind ≡ None → before p part t n k behind ≡ None
     before_none n (Set x e) behind h f =
         none_conjoined (set_goal p part t n x e) _ (sites_none (scalar_write n x ∷ expr_sites p e.node.id e.kind) h.1) (λ i. before_changes n (scalar_changes p part n x (term_of p e.kind)) (f i))
     before_none n (Put x at e) behind h f =
@@ -133,7 +133,7 @@ module _ (p : Program) (q : PolicyName) (part : Part) (t : Target) where
   no_condition : (c : Cut) (hs : List Formula) (path : Option Formula) → path ≡ None → condition p q part t c hs path ≡ []
   no_condition c hs path f = λ i. condition p q part t c hs (f i)
 
-  no_barrier_condition : (n : NodeId) (hs fs : List Formula) (behind : Option Formula) → behind ≡ None → barrier_condition p q part t n hs fs behind ≡ []
+  pub no_barrier_condition : (n : NodeId) (hs fs : List Formula) (behind : Option Formula) → behind ≡ None → barrier_condition p q part t n hs fs behind ≡ []
   no_barrier_condition n hs [] behind f = refl
   no_barrier_condition n hs (g ∷ gs) behind f = no_condition (After n) _ behind f
 
@@ -141,7 +141,7 @@ module _ (p : Program) (q : PolicyName) (part : Part) (t : Target) where
   nothing_joined cs ds h k = λ i. h i ++ k i
 
   mutual
-    none_aims_in : (hs : List Formula) (n : NodeId) (k : StmtKind) (behind : Option Formula) (barrier : List Condition) → Apart t (stmt_targets p n k) → behind ≡ None → barrier ≡ [] → conditions p q part t hs n k behind barrier ≡ []
+    pub none_aims_in : (hs : List Formula) (n : NodeId) (k : StmtKind) (behind : Option Formula) (barrier : List Condition) → Apart t (stmt_targets p n k) → behind ≡ None → barrier ≡ [] → conditions p q part t hs n k behind barrier ≡ []
     none_aims_in hs n (Set x e) behind barrier h f r = r
     none_aims_in hs n (Put x at e) behind barrier h f r = r
     none_aims_in hs n (If' test _ y _ z) behind barrier h f r =
