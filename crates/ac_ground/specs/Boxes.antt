@@ -1,6 +1,6 @@
 -- Box combinations of the facts of a valuation: a fact or the sum of two, whose parts are bounded one by one.
-use Rattle.std.specs.Prelude.{◌≡◌, ◌⊎◌, ℕ, pos, ℤ, ◌+ℤ◌, ◌*ℤ◌, neg_ℤ, ◌<◌, ◌≤ℤ◌, ◌<ℤ◌, List, [], ◌∷◌, ◌++◌, if◌then◌else◌, Option, Some, Contains, length}
-use Rattle.std.specs.List.{slice_index_or}
+use Rattle.std.specs.Prelude.{◌≡◌, ◌⊎◌, ℕ, ◌+◌, ◌^◌, ◌<◌, ◌≤◌, ℤ, pos, negsuc, ◌+ℤ◌, ◌*ℤ◌, ◌<ℤ◌, ◌≤ℤ◌, List, [], ◌∷◌, ◌++◌, if◌then◌else◌, Some, Contains, slice_get, unsigned_abs}
+use Rattle.std.specs.List.{sum_by}
 use Rattle.ac_logic.specs.declared.formula.Term.{Term, Num}
 use Rattle.ac_logic.specs.declared.formula.Formula.{Formula, True, False, Le, Eq}
 use Rattle.ac_logic.specs.Patterns.{Sum, Difference, Negation, Conjunction, Disjunction, Implication, Every, Labelled}
@@ -44,22 +44,24 @@ pub data AreForms : List Term → List Linear → Type 0 where
   none : AreForms [] []
   more : (t : Term) (l : Linear) (ts : List Term) (ls : List Linear) → normal_of t ≡ Some l → AreForms ts ls → AreForms (t ∷ ts) (l ∷ ls)
 
--- The base of a combination: one fact, or the sum of two at different places of the list.
+-- the sum of the magnitudes of all factors
+abbrev pub weight : Linear → ℕ
+weight l = sum_by (λ p. unsigned_abs p.factor) l.parts
+
+-- The base of a combination: one fact, or the sum of two at different places of the list. The magnitudes of all factors of
+-- the one or two facts sum to at most 2^62.
 pub data IsBase (ls : List Linear) (base : Linear) : Type 0 where
-  one : Contains ls base → IsBase ls base
-  two : (i j : ℕ) (d : Linear) → i < j → j < length ls → combination_of (slice_index_or ls i d ∷ slice_index_or ls j d ∷ []) (1 ∷ 1 ∷ []) ≡ Some base → IsBase ls base
+  one : Contains ls base → weight base ≤ 2 ^ 62 → IsBase ls base
+  two : (i j : ℕ) (l m : Linear) → i < j → slice_get ls i ≡ Some l → slice_get ls j ≡ Some m → weight l + weight m ≤ 2 ^ 62 → combination_of (l ∷ m ∷ []) (1 ∷ 1 ∷ []) ≡ Some base → IsBase ls base
 
 -- a fact of that unit alone, with a factor 1 or -1 of the other sign
 abbrev pub IsAgainst : Part → Linear → Type 0
-IsAgainst p l = ((pos 0 <ℤ p.factor) × (l.parts ≡ record p { factor = neg_ℤ (pos 1) } ∷ [])) ⊎ ((p.factor <ℤ pos 0) × (l.parts ≡ record p { factor = pos 1 } ∷ []))
-
-abbrev pub magnitude : ℤ → ℤ → Type 0
-magnitude n m = ((m ≡ n) ⊎ (m ≡ neg_ℤ n)) × (pos 0 ≤ℤ m)
+IsAgainst p l = ((pos 0 <ℤ p.factor) × (l.parts ≡ record p { factor = negsuc 0 } ∷ [])) ⊎ ((p.factor <ℤ pos 0) × (l.parts ≡ record p { factor = pos 1 } ∷ []))
 
 -- The parts of a base, each against a fact that is taken as often as the magnitude of its factor: the sum of the constants.
 pub data AreAgainst (ls : List Linear) : List Part → ℤ → Type 0 where
   none : AreAgainst ls [] (pos 0)
-  more : (p : Part) (ps : List Part) (l : Linear) (m n : ℤ) → Contains ls l → IsAgainst p l → magnitude p.factor m → AreAgainst ls ps n → AreAgainst ls (p ∷ ps) ((m *ℤ l.constant) +ℤ n)
+  more : (p : Part) (ps : List Part) (l : Linear) (n : ℤ) → Contains ls l → IsAgainst p l → AreAgainst ls ps n → AreAgainst ls (p ∷ ps) ((pos (unsigned_abs p.factor) *ℤ l.constant) +ℤ n)
 
 -- No box combination contradicts: none has a constant above 0, where all parts cancel.
 abbrev pub NoneContradicts : List Linear → Type 0

@@ -1,8 +1,6 @@
 -- The pairs of terms that are compared, their sides, and the units that a valuation may speak of.
-use Rattle.std.specs.Prelude.{◌≡◌, ◌⊎◌, List, [], ◌∷◌, ◌++◌, Bool, true, false, not, Option, Some}
-use Rattle.std.specs.Prelude.{Contains}
+use Rattle.std.specs.Prelude.{◌≡◌, ◌⊎◌, pos, List, [], ◌∷◌, ◌++◌, Bool, true, false, not, Some, Contains}
 use Rattle.std.specs.Ordering.{int_eq}
-use Rattle.std.specs.Prelude.{pos}
 use Rattle.ac_logic.specs.declared.formula.Term.{Term}
 use Rattle.ac_logic.specs.declared.formula.ArrayTerm.{ArrayTerm}
 use Rattle.ac_logic.specs.declared.formula.Formula.{Formula, True, False, Le, Eq}
@@ -11,17 +9,21 @@ use Rattle.ac_linear.specs.declared.linear.Linear.{Linear}
 use Rattle.ac_linear.specs.declared.linear.Part.{Part}
 use Rattle.ac_linear.specs.NormalForm.{normal_of}
 use Rattle.ac_ground.specs.declared.cell.Cell.{Cell}
+use Rattle.ac_ground.specs.declared.pair.Pair.{Pair}
 use Rattle.ac_ground.specs.Numbers.{first_side, second_side, unit_of}
 use Rattle.ac_ground.specs.Reads.{cell, read, reads, accesses}
 use Rattle.ac_ground.specs.Opened.{hidden, formula_shape, formula_child, term_shape, term_child, array_shape, array_child}
 
+abbrev pub pair : Term → Term → Pair
+pair s t = record { left = s; right = t }
+
 -- the sides of the comparisons of a ground form
-abbrev pub comparisons : Formula → List (Term × Term)
+abbrev pub comparisons : Formula → List Pair
 unfolding hidden formula_shape formula_child
 comparisons True = []
 comparisons False = []
-comparisons (Le s t) = (s, t) ∷ []
-comparisons (Eq s t) = (s, t) ∷ []
+comparisons (Le s t) = pair s t ∷ []
+comparisons (Eq s t) = pair s t ∷ []
 comparisons (Negation f) = comparisons f
 comparisons (Conjunction f g) = comparisons f ++ comparisons g
 comparisons (Disjunction f g) = comparisons f ++ comparisons g
@@ -33,7 +35,7 @@ comparisons (Labelled l f) = comparisons f
 -- units already, so their difference has no sum as a side, and is never too wide.
 pub data IsCompared (g : Formula) (s t : Term) : Type 0 where
   -- the two sides of a comparison
-  sides : Contains (comparisons g) (s, t) → IsCompared g s t
+  sides : Contains (comparisons g) (pair s t) → IsCompared g s t
   -- two indexes in the same place of reads or `put`s of one array
   first_indexes : (c d : Cell) → Contains (accesses g) c → Contains (accesses g) d → c.array ≡ d.array → s ≡ c.first → t ≡ d.first → IsCompared g s t
   second_indexes : (c d : Cell) → Contains (accesses g) c → Contains (accesses g) d → c.array ≡ d.array → s ≡ c.second → t ≡ d.second → IsCompared g s t

@@ -33,7 +33,8 @@ numbered v ps = map (λ p. (p.factor, number v p.unit)) ps
 abbrev pub AgreeInParts : Valuation → List Part → List Part → Type 0
 AgreeInParts v ps qs = IsPermutation (numbered v ps) (numbered v qs) → number_of_side v ps ≡ number_of_side v qs
 
--- The valuation falsifies a ground form. Box combinations of its facts, which `Boxes` defines, are not spoken of.
+-- The valuation falsifies a ground form. That no box combination of its facts contradicts is a clause of its own,
+-- `NoBoxContradicts`, which whoever eliminates promises beside this record.
 pub record FalsifiesGround (v : Valuation) (g : Formula) : Type 0 where
   pub is_false : truth v g ≡ false
   pub reads_agree : (c d : Cell) → Contains (reads g) c → Contains (reads g) d → AgreeOn v c d

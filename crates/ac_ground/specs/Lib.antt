@@ -6,3 +6,4 @@ pub mod Compared
 pub mod Falsifies
 pub mod Boxes
 pub mod Wide
+pub mod Signs

@@ -1,10 +1,9 @@
 -- When a ground form has a term whose normal form is too wide.
-use Rattle.std.specs.Prelude.{◌≡◌, pos, Bool, true, ◌||◌}
+use Rattle.std.specs.Prelude.{◌≡◌, Bool, true, not, ◌||◌}
 use Rattle.std.specs.Option.{is_some}
-use Rattle.std.specs.Prelude.{not}
-use Rattle.ac_logic.specs.declared.formula.Term.{Term, Num}
+use Rattle.ac_logic.specs.declared.formula.Term.{Term}
 use Rattle.ac_logic.specs.declared.formula.Formula.{Formula}
-use Rattle.ac_logic.specs.Patterns.{Sum, Difference}
+use Rattle.ac_logic.specs.Patterns.{Difference}
 use Rattle.ac_linear.specs.NormalForm.{normal_of}
 use Rattle.ac_ground.specs.Compared.{IsCompared}
 use Rattle.ac_ground.specs.Boxes.{next}

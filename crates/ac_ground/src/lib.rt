@@ -7,7 +7,15 @@
 #![tactic(auto, unfolding(crate::specs::Opened::formula_shape, crate::specs::Opened::formula_child, crate::specs::Opened::term_shape, crate::specs::Opened::term_child, crate::specs::Opened::array_shape, crate::specs::Opened::array_child, crate::specs::Opened::hidden))]
 
 mod cell;
+mod found;
+mod gap;
+mod number;
+mod pair;
+mod part;
+mod truth;
 mod valuation;
 
 pub use cell::Cell;
+pub use pair::Pair;
+pub use truth::is_true;
 pub use valuation::{Entry, Valuation};
