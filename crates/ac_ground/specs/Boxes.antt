@@ -65,7 +65,7 @@ pub data AreAgainst (ls : List Linear) : List Part → ℤ → Type 0 where
 
 -- No box combination contradicts: none has a constant above 0, where all parts cancel.
 abbrev pub NoneContradicts : List Linear → Type 0
-NoneContradicts ls = (base : Linear) (n : ℤ) → IsBase ls base → AreAgainst ls base.parts n → base.constant +ℤ n ≤ℤ pos 0
+NoneContradicts ls = (base : Linear) (n : ℤ) → IsBase ls base → AreAgainst ls base.parts n → (base.constant +ℤ n) ≤ℤ pos 0
 
 -- the clause on the facts of a valuation
 abbrev pub NoBoxContradicts : Valuation → Formula → Type 0

@@ -1,5 +1,5 @@
 -- When a valuation falsifies a formula.
-use Rattle.std.specs.Prelude.{◌≡◌, ◌≢◌, ⊤, ℤ, List, map, Bool, true, false, ◌&&◌, Contains, All, AllPairs}
+use Rattle.std.specs.Prelude.{◌≡◌, ◌≢◌, ⊤, List, map, Bool, true, false, ◌&&◌, Contains, All, AllPairs}
 use Rattle.std.specs.List.Sorted.{IsPermutation}
 use Rattle.ac_logic.specs.declared.formula.Term.{Term}
 use Rattle.ac_logic.specs.declared.formula.ArrayTerm.{ArrayTerm}
@@ -8,6 +8,7 @@ use Rattle.ac_logic.specs.Patterns.{Array, PutOf}
 use Rattle.ac_linear.specs.declared.linear.Part.{Part}
 use Rattle.ac_expand.specs.Ground.{ground_form}
 use Rattle.ac_ground.specs.declared.cell.Cell.{Cell}
+use Rattle.ac_ground.specs.declared.sum.NumberedPart.{NumberedPart}
 use Rattle.ac_ground.specs.declared.valuation.Valuation.{Valuation}
 use Rattle.ac_ground.specs.Numbers.{number, number_of_side, equal}
 use Rattle.ac_ground.specs.Truth.{truth}
@@ -26,8 +27,8 @@ IsReadOfPut v (Array s) k l = ⊤
 IsReadOfPut v (PutOf a i j w) k l = ((equal v i k && equal v j l) ≡ true → equal v (read (cell (PutOf a i j w) k l)) w ≡ true) × ((equal v i k && equal v j l) ≡ false → equal v (read (cell (PutOf a i j w) k l)) (read (cell a k l)) ≡ true)
 
 -- the factors of parts with the numbers of their units
-abbrev pub numbered : Valuation → List Part → List (ℤ × ℤ)
-numbered v ps = map (λ p. (p.factor, number v p.unit)) ps
+abbrev pub numbered : Valuation → List Part → List NumberedPart
+numbered v ps = map (λ p. record { factor = p.factor; number = number v p.unit }) ps
 
 -- Two sums have equal numbers where their parts can be paired with equal factors and equal numbers.
 abbrev pub AgreeInParts : Valuation → List Part → List Part → Type 0

@@ -6,4 +6,7 @@ pub mod Compared
 pub mod Falsifies
 pub mod Boxes
 pub mod Wide
+pub mod Examples
 pub mod Signs
+pub mod Table
+pub mod Sums

@@ -28,6 +28,7 @@ pub(crate) fn found_in(alloc: Global, ground: &Formula) -> Result<Found, AllocEr
     Ok(found)
 }
 
+#[tactic(auto, using(crate::proofs::Gathering::behind), unfolding(crate::specs::Opened::formula_shape, crate::specs::Opened::formula_child, crate::specs::Opened::term_shape, crate::specs::Opened::term_child, crate::specs::Opened::array_shape, crate::specs::Opened::array_child, crate::specs::Opened::hidden))]
 fn add_formula(formula: &Formula, found: &mut Found) -> Result<(), AllocError>
     ensures reads { OnOk result (found.new.reads ≡ found.old.reads ++ on_sides reads_in formula.now) }
     ensures changes { OnOk result (found.new.changes ≡ found.old.changes ++ on_sides changes_in formula.now) }
@@ -62,6 +63,7 @@ fn add_formula(formula: &Formula, found: &mut Found) -> Result<(), AllocError>
 }
 
 #[cycle(add_term)]
+#[tactic(auto, using(crate::proofs::Gathering::behind), unfolding(crate::specs::Opened::formula_shape, crate::specs::Opened::formula_child, crate::specs::Opened::term_shape, crate::specs::Opened::term_child, crate::specs::Opened::array_shape, crate::specs::Opened::array_child, crate::specs::Opened::hidden))]
 fn add_term(term: &Term, found: &mut Found) -> Result<(), AllocError>
     ensures reads { OnOk result (found.new.reads ≡ found.old.reads ++ reads_in term.now) }
     ensures changes { OnOk result (found.new.changes ≡ found.old.changes ++ changes_in term.now) }
@@ -74,7 +76,8 @@ fn add_term(term: &Term, found: &mut Found) -> Result<(), AllocError>
             add_reads(a, i, j, &mut found.reads)?;
             add_array(a.get(), found)?;
             add_term(i.get(), found)?;
-            add_term(j.get(), found)
+            add_term(j.get(), found)?;
+            Ok(())
         }
         Term::Add(s, t) => {
             add_term(s.get(), found)?;
@@ -93,6 +96,7 @@ fn add_term(term: &Term, found: &mut Found) -> Result<(), AllocError>
 }
 
 #[cycle(add_term)]
+#[tactic(auto, using(crate::proofs::Gathering::behind), unfolding(crate::specs::Opened::formula_shape, crate::specs::Opened::formula_child, crate::specs::Opened::term_shape, crate::specs::Opened::term_child, crate::specs::Opened::array_shape, crate::specs::Opened::array_child, crate::specs::Opened::hidden))]
 fn add_array(array: &ArrayTerm, found: &mut Found) -> Result<(), AllocError>
     ensures reads { OnOk result (found.new.reads ≡ found.old.reads ++ reads_in_array array.now) }
     ensures changes { OnOk result (found.new.changes ≡ found.old.changes ++ changes_in_array array.now) }
@@ -104,7 +108,8 @@ fn add_array(array: &ArrayTerm, found: &mut Found) -> Result<(), AllocError>
             add_array(a.get(), found)?;
             add_term(i.get(), found)?;
             add_term(j.get(), found)?;
-            add_term(v.get(), found)
+            add_term(v.get(), found)?;
+            Ok(())
         }
     }
 }

@@ -7,15 +7,26 @@
 #![tactic(auto, unfolding(crate::specs::Opened::formula_shape, crate::specs::Opened::formula_child, crate::specs::Opened::term_shape, crate::specs::Opened::term_child, crate::specs::Opened::array_shape, crate::specs::Opened::array_child, crate::specs::Opened::hidden))]
 
 mod cell;
+mod compared;
+pub mod examples;
+mod falsify;
 mod found;
 mod gap;
+mod index;
+mod meeting;
 mod number;
 mod pair;
 mod part;
+mod put;
+mod sum;
 mod truth;
 mod valuation;
+mod wide;
 
 pub use cell::Cell;
+pub use falsify::falsifies;
 pub use pair::Pair;
+pub use sum::{NumberedPart, NumberedSum};
 pub use truth::is_true;
 pub use valuation::{Entry, Valuation};
+pub use wide::is_wide;

@@ -2,7 +2,7 @@
 ghost use Rattle.std.specs.Prelude.{◌≡◌, ◌+ℤ◌, ◌-ℤ◌, pos, IfOk};
 ghost use Rattle.std.specs.Ordering.{int_cmp};
 ghost use Rattle.ac_linear.specs.TermEquality.{term_eq};
-ghost use Rattle.ac_ground.specs.Numbers.{number_among, number_of_side};
+ghost use Rattle.ac_ground.specs.Numbers.{number, number_among, number_of_side};
 
 use crate::part::unit_of;
 use crate::valuation::{Entry, Valuation};
@@ -22,7 +22,7 @@ pub(crate) fn is_same(a: &Term, b: &Term) -> bool
     false
 }
 
-/// The number of a unit: that of its first entry, or 0.
+/// That of the first entry of a unit, or 0.
 fn number_among(entries: &[Entry], unit: &Term) -> i128
     ensures { result ≡ number_among entries.now unit.now }
 {
@@ -34,6 +34,13 @@ fn number_among(entries: &[Entry], unit: &Term) -> i128
     0
 }
 
+/// The number of a unit.
+pub(crate) fn number(valuation: &Valuation, unit: &Term) -> i128
+    ensures { result ≡ number valuation.now unit.now }
+{
+    number_among(valuation.entries.as_slice(), unit)
+}
+
 /// The number of a side.
 pub(crate) fn number_of_side(
     alloc: Global,
@@ -43,7 +50,7 @@ pub(crate) fn number_of_side(
     ensures { IfOk result (λ n. n ≡ number_of_side valuation.now side.now) }
 {
     match unit_of(alloc, side)? {
-        Some(unit) => Ok(number_among(valuation.entries.as_slice(), unit.get())),
+        Some(unit) => Ok(number(valuation, unit.get())),
         None => Ok(0),
     }
 }

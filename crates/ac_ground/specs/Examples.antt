@@ -1,0 +1,80 @@
+-- Worked examples: conditions of programs that are not safe, with valuations that falsify them.
+--   write_outside    @use 2 { 0 <= 4 and 4 + 1 <= 4 }
+--   partly_filled    @assumed 4 { all _0 { { 0 <= _0 and _0 <= 8 } implies init(a)[_0] = 1 } } implies @use 11 { init(a)[9] = 1 }
+--   no_square        @use 2 { 3 = 4 and { all _0 { all _1 { { { 0 <= _0 and _0 + 1 <= 3 } and { 0 <= _1 and _1 + 1 <= 4 } }
+--                    implies r[_0,_1] = r[_1,_0] } } } }
+--   read_before_test @range 1 { 0 <= n and n <= 100 } implies { @invariant 6 { 0 <= i } implies @use 9 { 0 <= i and i + 1 <= n } }
+--   filled_if_zero   @range 1 { 0 <= c and c <= 1 } implies { @denied 4 { not c = 0 }
+--                    implies @use 14 { all _0 { { 0 <= _0 and _0 + 1 <= 5 } implies init(a)[_0] = 1 } } }
+--   left_loop        @exit 4 { { 8 + 1 <= i and { i = 0 or i = 8 + 1 } } and init(i) = 1 } implies @barrier 4 { false }
+--   twice            x + 1 <= 2 * x, where 2 * x is a unit of its own
+--   write_inside     @use 2 { 0 <= 3 and 3 + 1 <= 4 }, which is true under every valuation
+use Rattle.std.specs.Prelude.{ℕ, pos, List, [], ◌∷◌, codes}
+use Rattle.ac_logic.specs.declared.label.LabelKind.TheVariants as kind
+use Rattle.ac_logic.specs.declared.formula.Sym.TheVariants.{Value, Init}
+use Rattle.ac_logic.specs.declared.formula.Term.{Term, Bound}
+use Rattle.ac_logic.specs.declared.formula.Formula.{Formula, False, Le, Eq}
+use Rattle.ac_logic.specs.Patterns.{Scalar, Array, ReadOf, Sum, Product, Negation, Conjunction, Disjunction, Implication, Every, Labelled}
+use Rattle.ac_expand.specs.Examples.{label, number}
+use Rattle.ac_ground.specs.declared.valuation.Valuation.{Valuation}
+use Rattle.ac_ground.specs.Boxes.{next}
+use Rattle.ac_ground.specs.Opened.{hidden, formula_shape, formula_child, term_shape, term_child, array_shape, array_child}
+
+abbrev pub no_entry : Valuation
+no_entry = record { entries = [] }
+
+abbrev pub within : Term → Term → Formula
+unfolding hidden formula_shape formula_child
+within t e = Conjunction (Le (number 0) t) (Le (next t) e)
+
+abbrev pub init_a : Term → Term
+unfolding hidden term_shape term_child array_shape array_child
+init_a t = ReadOf (Array (Init (codes "a"))) t (number 0)
+
+abbrev pub scalar : List ℕ → Term
+scalar x = Scalar (Value x)
+
+abbrev pub write_outside : Formula
+unfolding hidden formula_shape formula_child
+write_outside = Labelled (label kind.Need 2) (within (number 4) (number 4))
+
+abbrev pub write_inside : Formula
+unfolding hidden formula_shape formula_child
+write_inside = Labelled (label kind.Need 2) (within (number 3) (number 4))
+
+abbrev pub partly_filled : Formula
+unfolding hidden formula_shape formula_child
+partly_filled = Implication (Labelled (label kind.Assumed 4) (Every (Implication (Conjunction (Le (number 0) (Bound 0)) (Le (Bound 0) (number 8))) (Eq (init_a (Bound 0)) (number 1))))) (Labelled (label kind.Need 11) (Eq (init_a (number 9)) (number 1)))
+
+abbrev pub first_written : Valuation
+first_written = record { entries = record { unit = init_a (number 0); value = pos 1 } ∷ [] }
+
+abbrev pub entry_of_r : Term → Term → Term
+unfolding hidden term_shape term_child array_shape array_child
+entry_of_r i j = ReadOf (Array (Value (codes "r"))) i j
+
+abbrev pub no_square : Formula
+unfolding hidden formula_shape formula_child
+no_square = Labelled (label kind.Need 2) (Conjunction (Eq (number 3) (number 4)) (Every (Every (Implication (Conjunction (within (Bound 1) (number 3)) (within (Bound 0) (number 4))) (Eq (entry_of_r (Bound 1) (Bound 0)) (entry_of_r (Bound 0) (Bound 1)))))))
+
+abbrev pub read_before_test : Formula
+unfolding hidden formula_shape formula_child
+read_before_test = Implication (Labelled (label kind.Range 1) (Conjunction (Le (number 0) (scalar (codes "n"))) (Le (scalar (codes "n")) (number 100)))) (Implication (Labelled (label kind.Invariant 6) (Le (number 0) (scalar (codes "i")))) (Labelled (label kind.Need 9) (within (scalar (codes "i")) (scalar (codes "n")))))
+
+abbrev pub filled_if_zero : Formula
+unfolding hidden formula_shape formula_child
+filled_if_zero = Implication (Labelled (label kind.Range 1) (Conjunction (Le (number 0) (scalar (codes "c"))) (Le (scalar (codes "c")) (number 1)))) (Implication (Labelled (label kind.Denied 4) (Negation (Eq (scalar (codes "c")) (number 0)))) (Labelled (label kind.Need 14) (Every (Implication (within (Bound 0) (number 5)) (Eq (init_a (Bound 0)) (number 1))))))
+
+abbrev pub one_c : Valuation
+one_c = record { entries = record { unit = scalar (codes "c"); value = pos 1 } ∷ [] }
+
+abbrev pub left_loop : Formula
+unfolding hidden formula_shape formula_child
+left_loop = Implication (Labelled (label kind.Exit 4) (Conjunction (Conjunction (Le (next (number 8)) (scalar (codes "i"))) (Disjunction (Eq (scalar (codes "i")) (number 0)) (Eq (scalar (codes "i")) (next (number 8))))) (Eq (Scalar (Init (codes "i"))) (number 1)))) (Labelled (label kind.Barrier 4) False)
+
+abbrev pub nine_i : Valuation
+nine_i = record { entries = record { unit = scalar (codes "i"); value = pos 9 } ∷ record { unit = Scalar (Init (codes "i")); value = pos 1 } ∷ [] }
+
+abbrev pub twice : Formula
+unfolding hidden term_shape term_child array_shape array_child
+twice = Le (next (scalar (codes "x"))) (Product (number 2) (scalar (codes "x")))
