@@ -1,5 +1,5 @@
 -- Lists in which each element is put once.
-use Rattle.std.proofs.Common.{◌≡◌, ◌⊎◌, inl, inr, ℕ, ◌+◌, ◌<◌, length, get_or, drop, drop-cons, Bool, true, false, List, [], ◌∷◌, ◌++◌, map, fold, refl, sym, ◌∙◌, ap, if◌then◌else◌, ◌&&◌, arith}
+use Rattle.std.proofs.Common.{◌≡◌, ◌⊎◌, inl, inr, ℕ, suc, ◌+◌, ◌<◌, length, get_or, drop, drop-cons, Bool, true, false, List, [], ◌∷◌, ◌++◌, map, fold, refl, sym, ◌∙◌, ap, if◌then◌else◌, ◌&&◌, arith}
 use Rattle.std.specs.Prelude.{Contains}
 use Rattle.std.specs.List.{list_all, list_any}
 use Rattle.std.proofs.lemmas.Bool.{false≢true}
@@ -77,7 +77,8 @@ from_map f (x ∷ xs) y h = elim (first_or_rest (f x) (map f xs) y h) [
 -- a test that each element passes, one more at a time
 pub all_next : {X : Type 0} (f : X → Bool) (xs : List X) (i : ℕ) (x : X) (r : Bool) → i < length xs → x ≡ get_or xs i x → r ≡ true → r ≡ f x → list_all f (drop i xs) ≡ list_all f xs → list_all f (drop (i + 1) xs) ≡ list_all f xs
 all_next f xs i x r l e t h k =
-    let c : drop i xs ≡ x ∷ drop (i + 1) xs = drop-cons xs i x l ∙ ap (λ y. y ∷ drop (i + 1) xs) (sym e) in
+    let s : suc i ≡ i + 1 = omega arith in
+    let c : drop i xs ≡ x ∷ drop (i + 1) xs = drop-cons xs i x l ∙ λ z. sym e z ∷ drop (s z) xs in
     sym (ap (list_all f) c ∙ ap (λ b. b && list_all f (drop (i + 1) xs)) (sym h ∙ t)) ∙ k
 
 pub pass_from : {X : Type 0} (p : X → Bool) (xs : List X) (x : X) → list_all p xs ≡ true → Contains xs x → p x ≡ true

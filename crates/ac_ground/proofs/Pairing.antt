@@ -6,6 +6,7 @@ use Rattle.std.specs.Ordering.{int_eq}
 use Rattle.std.proofs.lemmas.Bool.{false≢true}
 use Rattle.std.proofs.lemmas.Bool.Decides.{Decides-int_eq}
 use Rattle.std.proofs.lemmas.List.Sorted.{IsPermutation-refl, IsPermutation-sym, IsPermutation-trans, IsPermutation-cons, IsPermutation-middle, sum_by-IsPermutation}
+use Rattle.std.proofs.lemmas.List.Sums.{sum_by-cons}
 use Rattle.ac_ground.specs.declared.sum.NumberedPart.{NumberedPart}
 use Rattle.ac_ground.specs.Sums.{pairs_off, part_eq, without}
 use Rattle.ac_ground.proofs.Once.{left, right, both}
@@ -44,34 +45,40 @@ one b = if b then 1 else 0
 abbrev count : NumberedPart → List NumberedPart → ℕ
 count z xs = sum_by (λ y. one (part_eq z y)) xs
 
+count_cons : (z y : NumberedPart) (ys : List NumberedPart) → count z (y ∷ ys) ≡ one (part_eq z y) + count z ys
+count_cons z y ys = sum_by-cons (λ y. one (part_eq z y)) y ys
+
 found : (z : NumberedPart) (ys : List NumberedPart) (n : ℕ) → count z ys ≡ 1 + n → list_any (part_eq z) ys ≡ true
 found z [] n h = absurd (omega (arith, h))
 found z (y ∷ ys) n h =
     elim (part_eq z y) as (λ b. one b + count z ys ≡ 1 + n → (b || list_any (part_eq z) ys) ≡ true) [
       | true ↦ λ k. refl
       | false ↦ λ k. found z ys n (omega (arith, k))
-    ] h
+    ] (sym (count_cons z y ys) ∙ h)
 
-move : (a b c d : ℕ) → c ≡ b + d → a + c ≡ b + (a + d)
-move a b c d h = omega (arith, h)
+move : (a b c d e : ℕ) → c ≡ b + d → e ≡ a + d → a + c ≡ b + e
+move a b c d e h k = omega (arith, h, k)
 
 less : (x z : NumberedPart) (ys : List NumberedPart) → list_any (part_eq x) ys ≡ true → count z ys ≡ one (part_eq z x) + count z (without x ys)
 less x z [] h = absurd (false≢true h)
 less x z (y ∷ ys) h =
-    elim (part_eq x y) as (λ b. part_eq x y ≡ b → (b || list_any (part_eq x) ys) ≡ true → one (part_eq z y) + count z ys ≡ one (part_eq z x) + count z (if b then ys else y ∷ without x ys)) [
+    count_cons z y ys ∙ elim (part_eq x y) as (λ b. part_eq x y ≡ b → (b || list_any (part_eq x) ys) ≡ true → one (part_eq z y) + count z ys ≡ one (part_eq z x) + count z (if b then ys else y ∷ without x ys)) [
       | true ↦ λ e k. ap (λ w. one (part_eq z w) + count z ys) (sym (part_same x y e))
-      | false ↦ λ e k. move (one (part_eq z y)) (one (part_eq z x)) (count z ys) (count z (without x ys)) (less x z ys k)
+      | false ↦ λ e k. move (one (part_eq z y)) (one (part_eq z x)) (count z ys) (count z (without x ys)) (count z (y ∷ without x ys)) (less x z ys k) (count_cons z y (without x ys))
     ] refl h
 
 cancel : (a b c d : ℕ) → a ≡ b + c → a ≡ b + d → c ≡ d
 cancel a b c d h k = omega (arith, h, k)
 
+none_left : (n : ℕ) → 1 + n ≡ 0 → ⊥
+none_left n h = omega (arith, h)
+
 counted : (xs ys : List NumberedPart) → ((z : NumberedPart) → count z ys ≡ count z xs) → pairs_off xs ys ≡ true
 counted [] [] h = refl
-counted [] (y ∷ ys) h = absurd (let e : one (part_eq y y) + count y ys ≡ 0 = h y in let f : 1 + count y ys ≡ 0 = ap (λ b. one b + count y ys) (sym (part_itself y)) ∙ e in omega (arith, f))
+counted [] (y ∷ ys) h = absurd (none_left (count y ys) (ap (λ b. one b + count y ys) (sym (part_itself y)) ∙ (sym (count_cons y y ys) ∙ h y)))
 counted (x ∷ xs) ys h =
-    let a : list_any (part_eq x) ys ≡ true = found x ys (count x xs) (h x ∙ ap (λ b. one b + count x xs) (part_itself x)) in
-    both _ _ a (counted xs (without x ys) (λ z. cancel (count z ys) (one (part_eq z x)) (count z (without x ys)) (count z xs) (less x z ys a) (h z)))
+    let a : list_any (part_eq x) ys ≡ true = found x ys (count x xs) (h x ∙ (count_cons x x xs ∙ ap (λ b. one b + count x xs) (part_itself x))) in
+    both _ _ a (counted xs (without x ys) (λ z. cancel (count z ys) (one (part_eq z x)) (count z (without x ys)) (count z xs) (less x z ys a) (h z ∙ count_cons z x xs)))
 
 pub permuted_pair : (xs ys : List NumberedPart) → IsPermutation xs ys → pairs_off xs ys ≡ true
 permuted_pair xs ys p = counted xs ys (λ z. sum_by-IsPermutation (λ y. one (part_eq z y)) xs ys p)

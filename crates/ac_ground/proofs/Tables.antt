@@ -1,5 +1,5 @@
 -- Tables of indexes: what is found stays found, and rows tell which indexes meet.
-use Rattle.std.proofs.Common.{◌≡◌, ℕ, ◌+◌, ◌<◌, Bool, true, false, List, [], ◌∷◌, ◌++◌, length, map, fold, get_or, drop, drop-cons, refl, sym, ◌∙◌, ap, if◌then◌else◌, Option, None, Some, arith, length-append}
+use Rattle.std.proofs.Common.{◌≡◌, ℕ, suc, ◌+◌, ◌<◌, Bool, true, false, List, [], ◌∷◌, ◌++◌, length, map, fold, get_or, drop, drop-cons, refl, sym, ◌∙◌, ap, if◌then◌else◌, Option, None, Some, arith, length-append}
 use Rattle.std.specs.Prelude.{All, slice_get}
 use Rattle.std.specs.List.{list_all, list_any}
 use Rattle.std.specs.Option.{option_map}
@@ -33,7 +33,7 @@ pub all_placed_still : (fs ss gs ts : List Index) (x y : Index) (ps : List Place
 all_placed_still fs ss gs ts x y ps p q h =
     rw p (rw q (All-weaker (IsPlaced fs ss) (IsPlaced (with_index fs x) (with_index ss y)) (λ c i. record { first = with_there fs x c.first _ i.first; second = with_there ss y c.second _ i.second }) ps h))
 
-given : {A : Type 0} → Option A → A → A
+abbrev given : {A : Type 0} → Option A → A → A
 given None d = d
 given (Some x) d = x
 
@@ -53,13 +53,19 @@ placed_pass v ps cs e =
     ∙ (ap (λ ds. list_all (λ c. list_all (λ q. agrees v c q.cell) ps) ds) e
     ∙ ap (λ f. list_all f cs) (λ z c. (sym (list_all-map (agrees v c) (λ q. q.cell) ps) ∙ ap (list_all (agrees v c)) e) z))
 
+clash : (o : Option Row) (r : Row) → o ≡ None → o ≡ Some r → ⊥
+clash o r h k = cc
+
+pub no_row : {A : Type 0} (v : Valuation) (xs : List Index) (x : Index) (t : List Row) (k : ℕ) → t ≡ rows v xs → slice_get xs k ≡ Some x → slice_get t k ≡ None → A
+no_row v xs x t k e h n = absurd (clash (slice_get t k) (row v xs x) n (ap (λ u. slice_get u k) e ∙ (slice_get-map (row v xs) xs k ∙ ap (option_map (row v xs)) h)))
+
 -- ---- one cell more
 
 pub same_placed : (fs ss : List Index) (ps qs : List PlacedCell) → qs ≡ ps → All (IsPlaced fs ss) ps → All (IsPlaced fs ss) qs
 same_placed fs ss ps qs e h = rw e h
 
 next_item : (xs : List Cell) (i : ℕ) (x : Cell) → i < length xs → x ≡ get_or xs i x → drop i xs ≡ x ∷ drop (i + 1) xs
-next_item xs i x l e = drop-cons xs i x l ∙ ap (λ y. y ∷ drop (i + 1) xs) (sym e)
+next_item xs i x l e = let s : suc i ≡ i + 1 = omega arith in drop-cons xs i x l ∙ λ z. sym e z ∷ drop (s z) xs
 
 pub cells_next : (xs : List Cell) (i : ℕ) (x : Cell) (ps : List PlacedCell) (p : PlacedCell) (qs : List PlacedCell) → i < length xs → x ≡ get_or xs i x → p.cell ≡ x → qs ≡ ps ++ p ∷ [] → map (λ p. p.cell) ps ++ drop i xs ≡ xs → map (λ p. p.cell) qs ++ drop (i + 1) xs ≡ xs
 cells_next xs i x ps p qs l e q g h =

@@ -10,7 +10,7 @@ use Rattle.ac_linear.specs.declared.linear.Part.{Part}
 use Rattle.ac_linear.specs.NormalForm.{normal_of}
 use Rattle.ac_ground.specs.declared.cell.Cell.{Cell}
 use Rattle.ac_ground.specs.declared.pair.Pair.{Pair}
-use Rattle.ac_ground.specs.Numbers.{first_side, second_side, unit_of}
+use Rattle.ac_ground.specs.Numbers.{first_side, second_side, term_of_side}
 use Rattle.ac_ground.specs.Reads.{cell, read, reads, accesses}
 use Rattle.ac_ground.specs.Opened.{hidden, formula_shape, formula_child, term_shape, term_child, array_shape, array_child}
 
@@ -66,5 +66,5 @@ IsSum g ps = IsSide g ps × (is_sum ps ≡ true)
 
 -- A unit of a ground form: a side of a compared pair, or a part of one.
 pub data IsUnit (g : Formula) (u : Term) : Type 0 where
-  side : (ps : List Part) → IsSide g ps → unit_of ps ≡ Some u → IsUnit g u
+  side : (ps : List Part) → IsSide g ps → term_of_side ps ≡ Some u → IsUnit g u
   part : (ps : List Part) (p : Part) → IsSide g ps → Contains ps p → p.unit ≡ u → IsUnit g u

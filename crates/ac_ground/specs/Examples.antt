@@ -1,4 +1,4 @@
--- Worked examples: conditions of programs that are not safe, with valuations that falsify them.
+-- Worked examples: formulas like the conditions of programs that are not safe, with valuations that falsify them.
 --   write_outside    @use 2 { 0 <= 4 and 4 + 1 <= 4 }
 --   partly_filled    @assumed 4 { all _0 { { 0 <= _0 and _0 <= 8 } implies init(a)[_0] = 1 } } implies @use 11 { init(a)[9] = 1 }
 --   no_square        @use 2 { 3 = 4 and { all _0 { all _1 { { { 0 <= _0 and _0 + 1 <= 3 } and { 0 <= _1 and _1 + 1 <= 4 } }
@@ -8,13 +8,16 @@
 --                    implies @use 14 { all _0 { { 0 <= _0 and _0 + 1 <= 5 } implies init(a)[_0] = 1 } } }
 --   left_loop        @exit 4 { { 8 + 1 <= i and { i = 0 or i = 8 + 1 } } and init(i) = 1 } implies @barrier 4 { false }
 --   twice            x + 1 <= 2 * x, where 2 * x is a unit of its own
+--   one_cell         i = k implies { a[i] = 1 implies a[k] = 1 }, refused where a[i] is 1 and a[k] is 0
+--   written_cell     put(a, i, 0, 5)[k] = 5, refused where i and k are 1 and the read is 0
+--   two_sums         x = z implies { x + y <= 3 implies z + y <= 3 }, refused where y + z alone is 4
 --   write_inside     @use 2 { 0 <= 3 and 3 + 1 <= 4 }, which is true under every valuation
 use Rattle.std.specs.Prelude.{ℕ, pos, List, [], ◌∷◌, codes}
 use Rattle.ac_logic.specs.declared.label.LabelKind.TheVariants as kind
 use Rattle.ac_logic.specs.declared.formula.Sym.TheVariants.{Value, Init}
 use Rattle.ac_logic.specs.declared.formula.Term.{Term, Bound}
 use Rattle.ac_logic.specs.declared.formula.Formula.{Formula, False, Le, Eq}
-use Rattle.ac_logic.specs.Patterns.{Scalar, Array, ReadOf, Sum, Product, Negation, Conjunction, Disjunction, Implication, Every, Labelled}
+use Rattle.ac_logic.specs.Patterns.{Scalar, Array, ReadOf, PutOf, Sum, Product, Negation, Conjunction, Disjunction, Implication, Every, Labelled}
 use Rattle.ac_expand.specs.Examples.{label, number}
 use Rattle.ac_ground.specs.declared.valuation.Valuation.{Valuation}
 use Rattle.ac_ground.specs.Boxes.{next}
@@ -78,3 +81,29 @@ nine_i = record { entries = record { unit = scalar (codes "i"); value = pos 9 } 
 abbrev pub twice : Formula
 unfolding hidden term_shape term_child array_shape array_child
 twice = Le (next (scalar (codes "x"))) (Product (number 2) (scalar (codes "x")))
+
+abbrev pub a_at : Term → Term
+unfolding hidden term_shape term_child array_shape array_child
+a_at t = ReadOf (Array (Value (codes "a"))) t (number 0)
+
+abbrev pub one_cell : Formula
+unfolding hidden formula_shape formula_child
+one_cell = Implication (Eq (scalar (codes "i")) (scalar (codes "k"))) (Implication (Eq (a_at (scalar (codes "i"))) (number 1)) (Eq (a_at (scalar (codes "k"))) (number 1)))
+
+abbrev pub one_at_i : Valuation
+one_at_i = record { entries = record { unit = a_at (scalar (codes "i")); value = pos 1 } ∷ [] }
+
+abbrev pub written_cell : Formula
+unfolding hidden term_shape term_child array_shape array_child
+written_cell = Eq (ReadOf (PutOf (Array (Value (codes "a"))) (scalar (codes "i")) (number 0) (number 5)) (scalar (codes "k")) (number 0)) (number 5)
+
+abbrev pub both_one : Valuation
+both_one = record { entries = record { unit = scalar (codes "i"); value = pos 1 } ∷ record { unit = scalar (codes "k"); value = pos 1 } ∷ [] }
+
+abbrev pub two_sums : Formula
+unfolding hidden formula_shape formula_child term_shape term_child array_shape array_child
+two_sums = Implication (Eq (scalar (codes "x")) (scalar (codes "z"))) (Implication (Le (Sum (scalar (codes "x")) (scalar (codes "y"))) (number 3)) (Le (Sum (scalar (codes "z")) (scalar (codes "y"))) (number 3)))
+
+abbrev pub four_alone : Valuation
+unfolding hidden term_shape term_child array_shape array_child
+four_alone = record { entries = record { unit = Sum (scalar (codes "y")) (scalar (codes "z")); value = pos 4 } ∷ [] }

@@ -34,8 +34,8 @@ numbered v ps = map (λ p. record { factor = p.factor; number = number v p.unit 
 abbrev pub AgreeInParts : Valuation → List Part → List Part → Type 0
 AgreeInParts v ps qs = IsPermutation (numbered v ps) (numbered v qs) → number_of_side v ps ≡ number_of_side v qs
 
--- The valuation falsifies a ground form. That no box combination of its facts contradicts is a clause of its own,
--- `NoBoxContradicts`, which whoever eliminates promises beside this record.
+-- The valuation falsifies a ground form. That no box combination of its facts contradicts is not asked here: it is the
+-- clause `NoBoxContradicts` of `Boxes`.
 pub record FalsifiesGround (v : Valuation) (g : Formula) : Type 0 where
   pub is_false : truth v g ≡ false
   pub reads_agree : (c d : Cell) → Contains (reads g) c → Contains (reads g) d → AgreeOn v c d

@@ -44,16 +44,16 @@ added t ps = fold (λ s p. Sum s (multiple p)) t ps
 
 -- The unit that a side is: none where it has no part, its one part where that has the factor 1, else the sum of its parts,
 -- which is a unit of its own.
-abbrev pub unit_of : List Part → Option Term
-unit_of [] = None
-unit_of (p ∷ ps) = Some (added (multiple p) ps)
+abbrev pub term_of_side : List Part → Option Term
+term_of_side [] = None
+term_of_side (p ∷ ps) = Some (added (multiple p) ps)
 
-abbrev pub number_of_unit : Valuation → Option Term → ℤ
-number_of_unit v None = pos 0
-number_of_unit v (Some t) = number v t
+abbrev pub number_or_zero : Valuation → Option Term → ℤ
+number_or_zero v None = pos 0
+number_or_zero v (Some t) = number v t
 
 abbrev pub number_of_side : Valuation → List Part → ℤ
-number_of_side v ps = number_of_unit v (unit_of ps)
+number_of_side v ps = number_or_zero v (term_of_side ps)
 
 -- the constant plus the first side minus the second
 abbrev pub number_of_form : Valuation → Linear → ℤ

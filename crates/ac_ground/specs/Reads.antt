@@ -38,23 +38,23 @@ abbrev mutual
   reads_in_array (Array s) = []
   reads_in_array (PutOf a i j v) = reads_in_array a ++ reads_in i ++ reads_in j ++ reads_in v
 
--- the cells that are changed: the array within a `put`, at the indexes of the `put`
+-- the cells that `put`s change: the array within, at the indexes of the `put`
 abbrev mutual
   unfolding hidden term_shape term_child array_shape array_child
 
-  pub changes_in : Term → List Cell
-  changes_in (Num n) = []
-  changes_in (Scalar s) = []
-  changes_in (Bound k) = []
-  changes_in (ReadOf a i j) = changes_in_array a ++ changes_in i ++ changes_in j
-  changes_in (Sum s t) = changes_in s ++ changes_in t
-  changes_in (Difference s t) = changes_in s ++ changes_in t
-  changes_in (Product s t) = changes_in s ++ changes_in t
-  changes_in (Negative t) = changes_in t
+  pub puts_in : Term → List Cell
+  puts_in (Num n) = []
+  puts_in (Scalar s) = []
+  puts_in (Bound k) = []
+  puts_in (ReadOf a i j) = puts_in_array a ++ puts_in i ++ puts_in j
+  puts_in (Sum s t) = puts_in s ++ puts_in t
+  puts_in (Difference s t) = puts_in s ++ puts_in t
+  puts_in (Product s t) = puts_in s ++ puts_in t
+  puts_in (Negative t) = puts_in t
 
-  pub changes_in_array : ArrayTerm → List Cell
-  changes_in_array (Array s) = []
-  changes_in_array (PutOf a i j v) = cell a i j ∷ changes_in_array a ++ changes_in i ++ changes_in j ++ changes_in v
+  pub puts_in_array : ArrayTerm → List Cell
+  puts_in_array (Array s) = []
+  puts_in_array (PutOf a i j v) = cell a i j ∷ puts_in_array a ++ puts_in i ++ puts_in j ++ puts_in v
 
 -- what is found on both sides of each comparison
 abbrev pub on_sides : {A : Type 0} → (Term → List A) → Formula → List A
@@ -75,4 +75,4 @@ reads g = on_sides reads_in g
 
 -- the cells that are read or changed
 abbrev pub accesses : Formula → List Cell
-accesses g = reads g ++ on_sides changes_in g
+accesses g = reads g ++ on_sides puts_in g

@@ -18,7 +18,7 @@ use Rattle.ac_ground.specs.declared.sum.NumberedSum.{NumberedSum}
 use Rattle.ac_ground.specs.declared.valuation.Valuation.{Valuation}
 use Rattle.ac_ground.specs.Compared.{comparisons, is_sum, pair}
 use Rattle.ac_ground.specs.Numbers.{first_side, second_side, number_of_side}
-use Rattle.ac_ground.specs.Reads.{cell, changes_in, on_sides, read, reads}
+use Rattle.ac_ground.specs.Reads.{cell, puts_in, on_sides, read, reads}
 use Rattle.ac_ground.specs.Falsifies.{numbered}
 use Rattle.ac_ground.specs.Table.{agrees, first_index, is_read_of_put, second_index, with_cell, with_index}
 use Rattle.ac_ground.specs.Wide.{is_wide, is_wide_pair}
@@ -95,7 +95,7 @@ distinct_reads g = fold with_cell [] (reads g)
 
 -- the compared pairs of a ground form that have sums
 abbrev pub sum_pairs : Formula → List Pair
-sum_pairs g = comparisons g ++ all_index_pairs (distinct_reads g) (on_sides changes_in g) ++ put_pairs (distinct_reads g)
+sum_pairs g = comparisons g ++ all_index_pairs (distinct_reads g) (on_sides puts_in g) ++ put_pairs (distinct_reads g)
 
 -- The clauses on reads, on reads of `put`s and on sums.
 abbrev pub reads_pass : Valuation → List Cell → Bool

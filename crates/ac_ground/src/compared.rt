@@ -3,7 +3,7 @@ ghost use Rattle.std.specs.Prelude.{◌≡◌, ◌++◌, ◌∷◌, [], fold, if
 ghost use Rattle.std.specs.List.{list_any};
 ghost use Rattle.ac_linear.specs.TermEquality.{array_eq};
 ghost use Rattle.ac_ground.specs.Compared.{comparisons, pair};
-ghost use Rattle.ac_ground.specs.Reads.{changes_in, on_sides};
+ghost use Rattle.ac_ground.specs.Reads.{puts_in, on_sides};
 ghost use Rattle.ac_ground.specs.Sums.{all_index_pairs, distinct_reads, firsts_of, index_pairs, index_pairs_with, put_pairs, put_pairs_at, seconds_of, sum_pairs};
 ghost use Rattle.ac_ground.specs.Table.{cell_eq, with_cell};
 
@@ -22,13 +22,13 @@ pub(crate) fn sum_pairs(
     alloc: Global,
     ground: &Formula,
     reads: &[Cell],
-    changes: &[Cell],
+    puts: &[Cell],
 ) -> Result<Items<Pair>, AllocError>
-    ensures { reads.now ≡ distinct_reads ground.now → changes.now ≡ on_sides changes_in ground.now → IfOk result (λ pairs. pairs ≡ sum_pairs ground.now) }
+    ensures { reads.now ≡ distinct_reads ground.now → puts.now ≡ on_sides puts_in ground.now → IfOk result (λ pairs. pairs ≡ sum_pairs ground.now) }
 {
     let mut pairs = Items::new(alloc);
     add_comparisons(ground, &mut pairs)?;
-    add_all_index_pairs(alloc, reads, changes, &mut pairs)?;
+    add_all_index_pairs(alloc, reads, puts, &mut pairs)?;
     add_put_pairs(alloc, reads, &mut pairs)?;
     Ok(pairs)
 }
@@ -123,24 +123,24 @@ fn add_pair(
 fn add_all_index_pairs(
     alloc: Global,
     reads: &[Cell],
-    changes: &[Cell],
+    puts: &[Cell],
     pairs: &mut Items<Pair>,
 ) -> Result<(), AllocError>
-    ensures { OnOk result (pairs.new ≡ pairs.old ++ all_index_pairs reads.now changes.now) }
+    ensures { OnOk result (pairs.new ≡ pairs.old ++ all_index_pairs reads.now puts.now) }
 {
-    let table = indexes_of(alloc, reads, changes)?;
+    let table = indexes_of(alloc, reads, puts)?;
     add_index_pairs(table.firsts.as_slice(), pairs)?;
     add_index_pairs(table.seconds.as_slice(), pairs)
 }
 
 /// The first and the second indexes of cells that are read and changed.
-fn indexes_of(alloc: Global, reads: &[Cell], changes: &[Cell]) -> Result<Indexes, AllocError>
-    ensures firsts { IfOk result (λ table. table.firsts ≡ firsts_of reads.now changes.now) }
-    ensures seconds { IfOk result (λ table. table.seconds ≡ seconds_of reads.now changes.now) }
+fn indexes_of(alloc: Global, reads: &[Cell], puts: &[Cell]) -> Result<Indexes, AllocError>
+    ensures firsts { IfOk result (λ table. table.firsts ≡ firsts_of reads.now puts.now) }
+    ensures seconds { IfOk result (λ table. table.seconds ≡ seconds_of reads.now puts.now) }
 {
     let mut table = Indexes::new(alloc);
     drop(all_placed(alloc, &mut table, reads)?);
-    drop(all_placed(alloc, &mut table, changes)?);
+    drop(all_placed(alloc, &mut table, puts)?);
     Ok(table)
 }
 

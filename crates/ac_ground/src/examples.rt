@@ -1,7 +1,7 @@
 //! Worked examples of the definitions.
-ghost use Rattle.std.specs.Prelude.{◌≡◌, true};
+ghost use Rattle.std.specs.Prelude.{◌≡◌, false, true};
 ghost use Rattle.ac_expand.specs.Ground.{ground_form};
-ghost use Rattle.ac_ground.specs.Examples.{filled_if_zero, first_written, left_loop, nine_i, no_entry, no_square, one_c, partly_filled, read_before_test, twice, write_inside, write_outside};
+ghost use Rattle.ac_ground.specs.Examples.{both_one, filled_if_zero, first_written, four_alone, left_loop, nine_i, no_entry, no_square, one_at_i, one_c, one_cell, partly_filled, read_before_test, twice, two_sums, write_inside, write_outside, written_cell};
 ghost use Rattle.ac_ground.specs.Falsifies.{Falsifies};
 ghost use Rattle.ac_ground.specs.Truth.{truth};
 
@@ -25,4 +25,15 @@ pub fn with_entries()
 /// Twice a number is a unit of its own, so it can be 0 where the number is.
 pub fn a_multiple()
     ensures { Falsifies no_entry twice }
+{}
+
+/// Valuations that make a formula false and are refused: for two reads of one cell, for a read of the cell that was written,
+/// and for two sums with equal parts.
+pub fn refused()
+    ensures reads_false { truth one_at_i (ground_form one_cell) ≡ false }
+    ensures reads { Falsifies one_at_i one_cell → ⊥ }
+    ensures put_false { truth both_one (ground_form written_cell) ≡ false }
+    ensures put { Falsifies both_one written_cell → ⊥ }
+    ensures sums_false { truth four_alone (ground_form two_sums) ≡ false }
+    ensures sums { Falsifies four_alone two_sums → ⊥ }
 {}

@@ -52,13 +52,12 @@ fn is_in_order(
     if !are_reads_of_puts(alloc, valuation, reads.as_slice())? {
         return Ok(false);
     }
-    let pairs = sum_pairs(alloc, ground, reads.as_slice(), found.changes.as_slice())?;
+    let pairs = sum_pairs(alloc, ground, reads.as_slice(), found.puts.as_slice())?;
     let sums = sums_of(alloc, valuation, pairs.as_slice())?;
     are_sums_agreed(alloc, sums.as_slice())
 }
 
 /// Whether each two of the reads agree.
-#[tactic(auto, using(crate::proofs::Tables::placed_pass))]
 fn is_agreed_on(
     alloc: Global,
     valuation: &Valuation,

@@ -1,6 +1,6 @@
-//! What stands in a ground form: its reads, the cells that it changes, its comparisons.
+//! What stands in a ground form: its reads, the cells that its `put`s change.
 ghost use Rattle.std.specs.Prelude.{◌≡◌, ◌++◌, ◌∷◌, [], IfOk, OnOk};
-ghost use Rattle.ac_ground.specs.Reads.{cell, changes_in, changes_in_array, on_sides, reads_at, reads_in, reads_in_array};
+ghost use Rattle.ac_ground.specs.Reads.{cell, puts_in, puts_in_array, on_sides, reads_at, reads_in, reads_in_array};
 
 use crate::cell::Cell;
 use ac_logic::{ArrayTerm, Formula, Term};
@@ -12,17 +12,17 @@ use std::alloc::{AllocError, Global};
 #[derive(Drop)]
 pub(crate) struct Found {
     pub(crate) reads: Items<Cell>,
-    pub(crate) changes: Items<Cell>,
+    pub(crate) puts: Items<Cell>,
 }
 
 /// What stands in a ground form.
 pub(crate) fn found_in(alloc: Global, ground: &Formula) -> Result<Found, AllocError>
     ensures reads { IfOk result (λ found. found.reads ≡ on_sides reads_in ground.now) }
-    ensures changes { IfOk result (λ found. found.changes ≡ on_sides changes_in ground.now) }
+    ensures puts { IfOk result (λ found. found.puts ≡ on_sides puts_in ground.now) }
 {
     let mut found = Found {
         reads: Items::new(alloc),
-        changes: Items::new(alloc),
+        puts: Items::new(alloc),
     };
     add_formula(ground, &mut found)?;
     Ok(found)
@@ -31,7 +31,7 @@ pub(crate) fn found_in(alloc: Global, ground: &Formula) -> Result<Found, AllocEr
 #[tactic(auto, using(crate::proofs::Gathering::behind), unfolding(crate::specs::Opened::formula_shape, crate::specs::Opened::formula_child, crate::specs::Opened::term_shape, crate::specs::Opened::term_child, crate::specs::Opened::array_shape, crate::specs::Opened::array_child, crate::specs::Opened::hidden))]
 fn add_formula(formula: &Formula, found: &mut Found) -> Result<(), AllocError>
     ensures reads { OnOk result (found.new.reads ≡ found.old.reads ++ on_sides reads_in formula.now) }
-    ensures changes { OnOk result (found.new.changes ≡ found.old.changes ++ on_sides changes_in formula.now) }
+    ensures puts { OnOk result (found.new.puts ≡ found.old.puts ++ on_sides puts_in formula.now) }
 {
     match formula {
         Formula::True => Ok(()),
@@ -66,7 +66,7 @@ fn add_formula(formula: &Formula, found: &mut Found) -> Result<(), AllocError>
 #[tactic(auto, using(crate::proofs::Gathering::behind), unfolding(crate::specs::Opened::formula_shape, crate::specs::Opened::formula_child, crate::specs::Opened::term_shape, crate::specs::Opened::term_child, crate::specs::Opened::array_shape, crate::specs::Opened::array_child, crate::specs::Opened::hidden))]
 fn add_term(term: &Term, found: &mut Found) -> Result<(), AllocError>
     ensures reads { OnOk result (found.new.reads ≡ found.old.reads ++ reads_in term.now) }
-    ensures changes { OnOk result (found.new.changes ≡ found.old.changes ++ changes_in term.now) }
+    ensures puts { OnOk result (found.new.puts ≡ found.old.puts ++ puts_in term.now) }
 {
     match term {
         Term::Num(_) => Ok(()),
@@ -99,12 +99,12 @@ fn add_term(term: &Term, found: &mut Found) -> Result<(), AllocError>
 #[tactic(auto, using(crate::proofs::Gathering::behind), unfolding(crate::specs::Opened::formula_shape, crate::specs::Opened::formula_child, crate::specs::Opened::term_shape, crate::specs::Opened::term_child, crate::specs::Opened::array_shape, crate::specs::Opened::array_child, crate::specs::Opened::hidden))]
 fn add_array(array: &ArrayTerm, found: &mut Found) -> Result<(), AllocError>
     ensures reads { OnOk result (found.new.reads ≡ found.old.reads ++ reads_in_array array.now) }
-    ensures changes { OnOk result (found.new.changes ≡ found.old.changes ++ changes_in_array array.now) }
+    ensures puts { OnOk result (found.new.puts ≡ found.old.puts ++ puts_in_array array.now) }
 {
     match array {
         ArrayTerm::Sym(_) => Ok(()),
         ArrayTerm::Put(a, i, j, v) => {
-            add_cell(a, i, j, &mut found.changes)?;
+            add_cell(a, i, j, &mut found.puts)?;
             add_array(a.get(), found)?;
             add_term(i.get(), found)?;
             add_term(j.get(), found)?;

@@ -1,9 +1,9 @@
 //! Whether reads agree: those of one array at equal indexes.
-ghost use Rattle.std.specs.Prelude.{◌≡◌, All, Bool, IfOk, List, Some, slice_get};
+ghost use Rattle.std.specs.Prelude.{◌≡◌, ◌&&◌, All, Bool, if◌then◌else◌, IfOk, List, Some, slice_get, true};
 ghost use Rattle.std.specs.List.{list_all};
 ghost use Rattle.ac_ground.specs.Numbers.{equal};
 ghost use Rattle.ac_ground.specs.Reads.{read};
-ghost use Rattle.ac_ground.specs.Table.{agrees, AreRows, IsPlaced, meet, row, rows};
+ghost use Rattle.ac_ground.specs.Table.{agrees, AreRows, first_index, IsPlaced, meet, row, rows, second_index};
 ghost use Rattle.ac_ground.specs.declared.index.Index.{Index as AnyIndex};
 ghost use Rattle.ac_ground.specs.declared.valuation.Valuation.{Valuation as AnyValuation};
 
@@ -113,6 +113,21 @@ fn is_set(bits: &[bool], place: usize) -> bool
     }
 }
 
+/// Whether the indexes of two reads meet, the first and the second.
+fn are_met(meetings: &Meetings, left: &PlacedCell, right: &PlacedCell) -> bool
+    ensures { (v : AnyValuation) → AreRows v meetings.now → IsPlaced meetings.now.table.firsts meetings.now.table.seconds left.now → IsPlaced meetings.now.table.firsts meetings.now.table.seconds right.now → result ≡ (meet v (first_index left.now.cell) (first_index right.now.cell) && meet v (second_index left.now.cell) (second_index right.now.cell)) }
+{
+    let first = is_met(meetings.firsts.as_slice(), left.first, right.first);
+    let second = is_met(meetings.seconds.as_slice(), left.second, right.second);
+    both(first, second)
+}
+
+fn both(first: bool, second: bool) -> bool
+    ensures { result ≡ (first && second) }
+{
+    first && second
+}
+
 /// Whether two reads have equal numbers, unless their indexes don't meet.
 fn is_agreed(
     alloc: Global,
@@ -126,23 +141,24 @@ fn is_agreed(
     requires right { IsPlaced meetings.now.table.firsts meetings.now.table.seconds right.now }
     ensures { IfOk result (λ is. is ≡ agrees valuation.now left.now.cell right.now.cell) }
 {
-    let first = is_met(meetings.firsts.as_slice(), left.first, right.first);
-    let second = is_met(meetings.seconds.as_slice(), left.second, right.second);
-    if !(first && second) {
-        return Ok(true);
-    }
-    is_equal_read(alloc, valuation, &left.cell, &right.cell)
+    let met = are_met(meetings, left, right);
+    let agreed = is_equal_if(alloc, valuation, met, &left.cell, &right.cell)?;
+    Ok(agreed)
 }
 
-/// Whether two reads have equal numbers.
-fn is_equal_read(
+/// Whether two reads have equal numbers, where they are to have.
+fn is_equal_if(
     alloc: Global,
     valuation: &Valuation,
+    asked: bool,
     left: &Cell,
     right: &Cell,
 ) -> Result<bool, AllocError>
-    ensures { IfOk result (λ is. is ≡ equal valuation.now (read left.now) (read right.now)) }
+    ensures { IfOk result (λ is. is ≡ (if asked then equal valuation.now (read left.now) (read right.now) else true)) }
 {
+    if !asked {
+        return Ok(true);
+    }
     let left = left.read(alloc)?;
     let right = right.read(alloc)?;
     is_equal(alloc, valuation, &left, &right)

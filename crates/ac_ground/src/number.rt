@@ -4,7 +4,7 @@ ghost use Rattle.std.specs.Ordering.{int_cmp};
 ghost use Rattle.ac_linear.specs.TermEquality.{term_eq};
 ghost use Rattle.ac_ground.specs.Numbers.{number, number_among, number_of_side};
 
-use crate::part::unit_of;
+use crate::part::term_of_side;
 use crate::valuation::{Entry, Valuation};
 use ac_linear::Part;
 use ac_logic::{Term, same_term};
@@ -49,7 +49,7 @@ pub(crate) fn number_of_side(
 ) -> Result<i128, AllocError>
     ensures { IfOk result (λ n. n ≡ number_of_side valuation.now side.now) }
 {
-    match unit_of(alloc, side)? {
+    match term_of_side(alloc, side)? {
         Some(unit) => Ok(number(valuation, unit.get())),
         None => Ok(0),
     }

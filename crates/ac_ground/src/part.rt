@@ -2,7 +2,7 @@
 ghost use Rattle.std.specs.Prelude.{◌≡◌, ◌++◌, ◌∷◌, [], map, not, IfOk, OnOk};
 ghost use Rattle.std.specs.List.{filter};
 ghost use Rattle.ac_logic.specs.declared.formula.Term.{Num};
-ghost use Rattle.ac_ground.specs.Numbers.{added, is_positive, multiple, negated, unit_of};
+ghost use Rattle.ac_ground.specs.Numbers.{added, is_positive, multiple, negated, term_of_side};
 
 use ac_linear::Part;
 use ac_logic::Term;
@@ -57,8 +57,8 @@ fn add_negative(side: &mut Items<Part>, part: &Part) -> Result<(), AllocError>
 }
 
 /// The unit that a side is; none where it has no part.
-pub(crate) fn unit_of(alloc: Global, side: &[Part]) -> Result<Option<Shared<Term>>, AllocError>
-    ensures { IfOk result (λ unit. unit ≡ unit_of side.now) }
+pub(crate) fn term_of_side(alloc: Global, side: &[Part]) -> Result<Option<Shared<Term>>, AllocError>
+    ensures { IfOk result (λ unit. unit ≡ term_of_side side.now) }
 {
     let [first, rest @ ..] = side else {
         return Ok(None);

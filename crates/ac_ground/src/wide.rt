@@ -35,7 +35,7 @@ fn has_wide_pair(alloc: Global, ground: &Formula) -> Result<bool, AllocError>
     if is_any_read_wide(alloc, reads.as_slice())? {
         return Ok(true);
     }
-    let pairs = sum_pairs(alloc, ground, reads.as_slice(), found.changes.as_slice())?;
+    let pairs = sum_pairs(alloc, ground, reads.as_slice(), found.puts.as_slice())?;
     is_any_pair_wide(alloc, pairs.as_slice())
 }
 

@@ -18,3 +18,7 @@ returns-clause-no_square c = (falsified no_entry (ground_form no_square) true re
 pub returns-clause-read_before_test : goal.returns-clause-read_before_test
 unfolding is_in_order gap sums_between hidden formula_shape formula_child term_shape term_child array_shape array_child
 returns-clause-read_before_test c = (falsified no_entry (ground_form read_before_test) true refl refl).0 refl
+
+pub returns-clause-write_inside : goal.returns-clause-write_inside
+unfolding gap hidden formula_shape formula_child term_shape term_child array_shape array_child
+returns-clause-write_inside c = refl
