@@ -137,12 +137,12 @@ pub falsified : (v : Valuation) (g : Formula) (r : Bool) → truth v g ≡ false
 unfolding is_in_order
 falsified v g r t h = (
   λ e. (let o : is_in_order v g ≡ true = sym h ∙ e in
-    record {
-      is_false = t;
-      reads_agree = all_agree v g (left _ _ (left _ _ o));
-      puts_agree = all_puts v g (right _ _ (left _ _ o));
-      sums_agree = all_sums v g (right _ _ o);
-    }),
+      record {
+        is_false = t;
+        reads_agree = all_agree v g (left _ _ (left _ _ o));
+        puts_agree = all_puts v g (right _ _ (left _ _ o));
+        sums_agree = all_sums v g (right _ _ o);
+      }),
   λ f. h ∙ both _ _ (both _ _ (all_agree_back v g f.reads_agree) (all_puts_back v g f.puts_agree)) (all_sums_back v g f.sums_agree),
 )
 

@@ -126,9 +126,9 @@ put_compared g c (PutOf a i j w) p r e h = elim (first_or_rest (pair (read c) w)
 index_compared : (g : Formula) (p : Pair) → Contains (all_index_pairs (distinct_reads g) (on_sides puts_in g)) p → IsCompared g p.left p.right
 index_compared g p h = elim (Contains-append_cases (index_pairs (firsts_of (distinct_reads g) (on_sides puts_in g)) (firsts_of (distinct_reads g) (on_sides puts_in g))) (index_pairs (seconds_of (distinct_reads g) (on_sides puts_in g)) (seconds_of (distinct_reads g) (on_sides puts_in g))) p h) [
   | inl a ↦ (let m = pairs_from _ _ p a in let c = from_table first_index g m.first m.in_first in let d = from_table first_index g m.second m.in_second in
-    first_indexes c.0 d.0 c.1 d.1 (ap (λ x. x.array) c.2 ∙ (m.array ∙ ap (λ x. x.array) (sym d.2))) (ap (λ x. x.left) (sym m.is) ∙ ap (λ x. x.term) (sym c.2)) (ap (λ x. x.right) (sym m.is) ∙ ap (λ x. x.term) (sym d.2)))
+      first_indexes c.0 d.0 c.1 d.1 (ap (λ x. x.array) c.2 ∙ (m.array ∙ ap (λ x. x.array) (sym d.2))) (ap (λ x. x.left) (sym m.is) ∙ ap (λ x. x.term) (sym c.2)) (ap (λ x. x.right) (sym m.is) ∙ ap (λ x. x.term) (sym d.2)))
   | inr b ↦ (let m = pairs_from _ _ p b in let c = from_table second_index g m.first m.in_first in let d = from_table second_index g m.second m.in_second in
-    second_indexes c.0 d.0 c.1 d.1 (ap (λ x. x.array) c.2 ∙ (m.array ∙ ap (λ x. x.array) (sym d.2))) (ap (λ x. x.left) (sym m.is) ∙ ap (λ x. x.term) (sym c.2)) (ap (λ x. x.right) (sym m.is) ∙ ap (λ x. x.term) (sym d.2)))
+      second_indexes c.0 d.0 c.1 d.1 (ap (λ x. x.array) c.2 ∙ (m.array ∙ ap (λ x. x.array) (sym d.2))) (ap (λ x. x.left) (sym m.is) ∙ ap (λ x. x.term) (sym c.2)) (ap (λ x. x.right) (sym m.is) ∙ ap (λ x. x.term) (sym d.2)))
 ]
 
 pub is_compared : (g : Formula) (p : Pair) → Contains (sum_pairs g) p → IsCompared g p.left p.right

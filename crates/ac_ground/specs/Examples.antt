@@ -1,15 +1,13 @@
 -- Worked examples: formulas like the conditions of programs that are not safe, with valuations that falsify them.
 --   write_outside    @use 2 { 0 <= 4 and 4 + 1 <= 4 }
---   partly_filled    @assumed 4 { all _0 { { 0 <= _0 and _0 <= 8 } implies init(a)[_0] = 1 } } implies @use 11 { init(a)[9] = 1 }
---   no_square        @use 2 { 3 = 4 and { all _0 { all _1 { { { 0 <= _0 and _0 + 1 <= 3 } and { 0 <= _1 and _1 + 1 <= 4 } }
---                    implies r[_0,_1] = r[_1,_0] } } } }
+--   partly_filled    @assumed 4 { all _0 { { 0 <= _0 and _0 + 1 <= n } implies init(a)[_0,m] = 1 } } implies @use 11 { init(a)[n,m] = 1 }
+--   no_square        @use 2 { 3 = 4 and r[n,m] = r[m,n] }
 --   read_before_test @range 1 { 0 <= n and n <= 100 } implies { @invariant 6 { 0 <= i } implies @use 9 { 0 <= i and i + 1 <= n } }
---   filled_if_zero   @range 1 { 0 <= c and c <= 1 } implies { @denied 4 { not c = 0 }
---                    implies @use 14 { all _0 { { 0 <= _0 and _0 + 1 <= 5 } implies init(a)[_0] = 1 } } }
+--   set_if_zero      @range 1 { 0 <= c and c <= 1 } implies { @denied 4 { not c = 0 } implies @use 14 { init(x) = 1 } }
 --   left_loop        @exit 4 { { 8 + 1 <= i and { i = 0 or i = 8 + 1 } } and init(i) = 1 } implies @barrier 4 { false }
 --   twice            x + 1 <= 2 * x, where 2 * x is a unit of its own
 --   one_cell         i = k implies { a[i] = 1 implies a[k] = 1 }, refused where a[i] is 1 and a[k] is 0
---   written_cell     put(a, i, 0, 5)[k] = 5, refused where i and k are 1 and the read is 0
+--   written_cell     put(a, i, m, x)[k,m] = x, refused where i and k are 1, x is 5 and the read is 0
 --   two_sums         x = z implies { x + y <= 3 implies z + y <= 3 }, refused where y + z alone is 4
 --   write_inside     @use 2 { 0 <= 3 and 3 + 1 <= 4 }, which is true under every valuation
 use Rattle.std.specs.Prelude.{ℕ, pos, List, [], ◌∷◌, codes}
@@ -30,12 +28,18 @@ abbrev pub within : Term → Term → Formula
 unfolding hidden formula_shape formula_child
 within t e = Conjunction (Le (number 0) t) (Le (next t) e)
 
-abbrev pub init_a : Term → Term
+abbrev pub init_a : Term → Term → Term
 unfolding hidden term_shape term_child array_shape array_child
-init_a t = ReadOf (Array (Init (codes "a"))) t (number 0)
+init_a i j = ReadOf (Array (Init (codes "a"))) i j
 
 abbrev pub scalar : List ℕ → Term
 scalar x = Scalar (Value x)
+
+abbrev pub n : Term
+n = scalar (codes "n")
+
+abbrev pub m : Term
+m = scalar (codes "m")
 
 abbrev pub write_outside : Formula
 unfolding hidden formula_shape formula_child
@@ -47,10 +51,10 @@ write_inside = Labelled (label kind.Need 2) (within (number 3) (number 4))
 
 abbrev pub partly_filled : Formula
 unfolding hidden formula_shape formula_child
-partly_filled = Implication (Labelled (label kind.Assumed 4) (Every (Implication (Conjunction (Le (number 0) (Bound 0)) (Le (Bound 0) (number 8))) (Eq (init_a (Bound 0)) (number 1))))) (Labelled (label kind.Need 11) (Eq (init_a (number 9)) (number 1)))
+partly_filled = Implication (Labelled (label kind.Assumed 4) (Every (Implication (within (Bound 0) n) (Eq (init_a (Bound 0) m) (number 1))))) (Labelled (label kind.Need 11) (Eq (init_a n m) (number 1)))
 
 abbrev pub first_written : Valuation
-first_written = record { entries = record { unit = init_a (number 0); value = pos 1 } ∷ [] }
+first_written = record { entries = record { unit = n; value = pos 9 } ∷ record { unit = init_a m m; value = pos 1 } ∷ [] }
 
 abbrev pub entry_of_r : Term → Term → Term
 unfolding hidden term_shape term_child array_shape array_child
@@ -58,15 +62,15 @@ entry_of_r i j = ReadOf (Array (Value (codes "r"))) i j
 
 abbrev pub no_square : Formula
 unfolding hidden formula_shape formula_child
-no_square = Labelled (label kind.Need 2) (Conjunction (Eq (number 3) (number 4)) (Every (Every (Implication (Conjunction (within (Bound 1) (number 3)) (within (Bound 0) (number 4))) (Eq (entry_of_r (Bound 1) (Bound 0)) (entry_of_r (Bound 0) (Bound 1)))))))
+no_square = Labelled (label kind.Need 2) (Conjunction (Eq (number 3) (number 4)) (Eq (entry_of_r n m) (entry_of_r m n)))
 
 abbrev pub read_before_test : Formula
 unfolding hidden formula_shape formula_child
-read_before_test = Implication (Labelled (label kind.Range 1) (Conjunction (Le (number 0) (scalar (codes "n"))) (Le (scalar (codes "n")) (number 100)))) (Implication (Labelled (label kind.Invariant 6) (Le (number 0) (scalar (codes "i")))) (Labelled (label kind.Need 9) (within (scalar (codes "i")) (scalar (codes "n")))))
+read_before_test = Implication (Labelled (label kind.Range 1) (Conjunction (Le (number 0) n) (Le n (number 100)))) (Implication (Labelled (label kind.Invariant 6) (Le (number 0) (scalar (codes "i")))) (Labelled (label kind.Need 9) (within (scalar (codes "i")) n)))
 
-abbrev pub filled_if_zero : Formula
+abbrev pub set_if_zero : Formula
 unfolding hidden formula_shape formula_child
-filled_if_zero = Implication (Labelled (label kind.Range 1) (Conjunction (Le (number 0) (scalar (codes "c"))) (Le (scalar (codes "c")) (number 1)))) (Implication (Labelled (label kind.Denied 4) (Negation (Eq (scalar (codes "c")) (number 0)))) (Labelled (label kind.Need 14) (Every (Implication (within (Bound 0) (number 5)) (Eq (init_a (Bound 0)) (number 1))))))
+set_if_zero = Implication (Labelled (label kind.Range 1) (Conjunction (Le (number 0) (scalar (codes "c"))) (Le (scalar (codes "c")) (number 1)))) (Implication (Labelled (label kind.Denied 4) (Negation (Eq (scalar (codes "c")) (number 0)))) (Labelled (label kind.Need 14) (Eq (Scalar (Init (codes "x"))) (number 1))))
 
 abbrev pub one_c : Valuation
 one_c = record { entries = record { unit = scalar (codes "c"); value = pos 1 } ∷ [] }
@@ -95,10 +99,10 @@ one_at_i = record { entries = record { unit = a_at (scalar (codes "i")); value =
 
 abbrev pub written_cell : Formula
 unfolding hidden term_shape term_child array_shape array_child
-written_cell = Eq (ReadOf (PutOf (Array (Value (codes "a"))) (scalar (codes "i")) (number 0) (number 5)) (scalar (codes "k")) (number 0)) (number 5)
+written_cell = Eq (ReadOf (PutOf (Array (Value (codes "a"))) (scalar (codes "i")) m (scalar (codes "x"))) (scalar (codes "k")) m) (scalar (codes "x"))
 
 abbrev pub both_one : Valuation
-both_one = record { entries = record { unit = scalar (codes "i"); value = pos 1 } ∷ record { unit = scalar (codes "k"); value = pos 1 } ∷ [] }
+both_one = record { entries = record { unit = scalar (codes "i"); value = pos 1 } ∷ record { unit = scalar (codes "k"); value = pos 1 } ∷ record { unit = scalar (codes "x"); value = pos 5 } ∷ [] }
 
 abbrev pub two_sums : Formula
 unfolding hidden formula_shape formula_child term_shape term_child array_shape array_child

@@ -76,10 +76,7 @@ fn is_same_cell(cell: &Cell, other: &Cell) -> bool
 
 /// Adds the sides of the comparisons of a ground form.
 #[tactic(auto, using(crate::proofs::Gathering::pairs_behind), unfolding(crate::specs::Opened::formula_shape, crate::specs::Opened::formula_child, crate::specs::Opened::term_shape, crate::specs::Opened::term_child, crate::specs::Opened::array_shape, crate::specs::Opened::array_child, crate::specs::Opened::hidden))]
-fn add_comparisons(
-    formula: &Formula,
-    pairs: &mut Items<Pair>,
-) -> Result<(), AllocError>
+fn add_comparisons(formula: &Formula, pairs: &mut Items<Pair>) -> Result<(), AllocError>
     ensures { OnOk result (pairs.new ≡ pairs.old ++ comparisons formula.now) }
 {
     match formula {
@@ -168,11 +165,7 @@ fn add_index_pairs_with(
     Ok(())
 }
 
-fn add_if_one_array(
-    index: &Index,
-    other: &Index,
-    pairs: &mut Items<Pair>,
-) -> Result<(), AllocError>
+fn add_if_one_array(index: &Index, other: &Index, pairs: &mut Items<Pair>) -> Result<(), AllocError>
     ensures { OnOk result (pairs.new ≡ pairs.old ++ (if array_eq index.now.array other.now.array then pair index.now.term other.now.term ∷ [] else [])) }
 {
     if is_same_array(index.array.get(), other.array.get()) {
@@ -182,11 +175,7 @@ fn add_if_one_array(
 }
 
 /// Adds each read of a `put` with the written number and with the inner read.
-fn add_put_pairs(
-    alloc: Global,
-    reads: &[Cell],
-    pairs: &mut Items<Pair>,
-) -> Result<(), AllocError>
+fn add_put_pairs(alloc: Global, reads: &[Cell], pairs: &mut Items<Pair>) -> Result<(), AllocError>
     ensures { OnOk result (pairs.new ≡ pairs.old ++ put_pairs reads.now) }
 {
     for read in reads {
@@ -195,11 +184,7 @@ fn add_put_pairs(
     Ok(())
 }
 
-fn add_put_pairs_at(
-    alloc: Global,
-    outer: &Cell,
-    pairs: &mut Items<Pair>,
-) -> Result<(), AllocError>
+fn add_put_pairs_at(alloc: Global, outer: &Cell, pairs: &mut Items<Pair>) -> Result<(), AllocError>
     ensures { OnOk result (pairs.new ≡ pairs.old ++ put_pairs_at outer.now.array outer.now) }
 {
     match outer.array.get() {

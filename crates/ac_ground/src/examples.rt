@@ -1,7 +1,7 @@
 //! Worked examples of the definitions.
 ghost use Rattle.std.specs.Prelude.{◌≡◌, false, true};
 ghost use Rattle.ac_expand.specs.Ground.{ground_form};
-ghost use Rattle.ac_ground.specs.Examples.{both_one, filled_if_zero, first_written, four_alone, left_loop, nine_i, no_entry, no_square, one_at_i, one_c, one_cell, partly_filled, read_before_test, twice, two_sums, write_inside, write_outside, written_cell};
+ghost use Rattle.ac_ground.specs.Examples.{both_one, set_if_zero, first_written, four_alone, left_loop, nine_i, no_entry, no_square, one_at_i, one_c, one_cell, partly_filled, read_before_test, twice, two_sums, write_inside, write_outside, written_cell};
 ghost use Rattle.ac_ground.specs.Falsifies.{Falsifies};
 ghost use Rattle.ac_ground.specs.Truth.{truth};
 
@@ -14,11 +14,11 @@ pub fn without_entries()
     ensures write_inside { truth no_entry (ground_form write_inside) ≡ true }
 {}
 
-/// A cell behind the filled part of an array, an array that is filled in one of two cases, and the end of a loop behind which
+/// A cell behind the filled part of an array, a scalar that is set in one of two cases, and the end of a loop behind which
 /// something false is asked.
 pub fn with_entries()
     ensures partly_filled { Falsifies first_written partly_filled }
-    ensures filled_if_zero { Falsifies one_c filled_if_zero }
+    ensures set_if_zero { Falsifies one_c set_if_zero }
     ensures left_loop { Falsifies nine_i left_loop }
 {}
 

@@ -21,11 +21,7 @@ use std::alloc::{AllocError, Global};
 /// Each two distinct indexes of an array are compared once, and each two reads by these. The time is that, and that of the
 /// normal form of each comparison.
 #[tactic(auto, using(crate::proofs::Falsified::falsified, crate::proofs::Falsified::not_false))]
-pub fn falsifies(
-    alloc: Global,
-    ground: &Formula,
-    valuation: &Valuation,
-) -> Result<bool, AllocError>
+pub fn falsifies(alloc: Global, ground: &Formula, valuation: &Valuation) -> Result<bool, AllocError>
     ensures { IfOk result (λ is. IsTrue is ↔ FalsifiesGround valuation.now ground.now) }
 {
     if is_true(alloc, ground, valuation)? {
@@ -37,11 +33,7 @@ pub fn falsifies(
 
 /// Whether a valuation is in order on reads, on reads of `put`s and on sums.
 #[tactic(auto, unfolding(crate::specs::Sums::is_in_order))]
-fn is_in_order(
-    alloc: Global,
-    ground: &Formula,
-    valuation: &Valuation,
-) -> Result<bool, AllocError>
+fn is_in_order(alloc: Global, ground: &Formula, valuation: &Valuation) -> Result<bool, AllocError>
     ensures { IfOk result (λ is. is ≡ is_in_order valuation.now ground.now) }
 {
     let found = found_in(alloc, ground)?;
@@ -58,11 +50,7 @@ fn is_in_order(
 }
 
 /// Whether each two of the reads agree.
-fn is_agreed_on(
-    alloc: Global,
-    valuation: &Valuation,
-    reads: &[Cell],
-) -> Result<bool, AllocError>
+fn is_agreed_on(alloc: Global, valuation: &Valuation, reads: &[Cell]) -> Result<bool, AllocError>
     ensures { IfOk result (λ is. is ≡ reads_pass valuation.now reads.now) }
 {
     let mut table = Indexes::new(alloc);

@@ -31,11 +31,7 @@ pub(crate) fn difference(
 }
 
 /// What the number of a form is beside 0.
-fn sign_of_form(
-    alloc: Global,
-    valuation: &Valuation,
-    form: &Linear,
-) -> Result<Ordering, AllocError>
+fn sign_of_form(alloc: Global, valuation: &Valuation, form: &Linear) -> Result<Ordering, AllocError>
     ensures { IfOk result (λ sign. sign ≡ sign_of (number_of_form valuation.now form.now)) }
 {
     let first = positive_parts(alloc, form.parts.as_slice())?;
