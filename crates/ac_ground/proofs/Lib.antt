@@ -1,0 +1,10 @@
+pub mod Signs
+pub mod Gathering
+pub mod Once
+pub mod Tables
+pub mod Pairing
+pub mod Agreement
+pub mod Members
+pub mod Sides
+pub mod Falsified
+pub mod WidePairs

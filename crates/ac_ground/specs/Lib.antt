@@ -1,0 +1,12 @@
+pub mod Opened
+pub mod Numbers
+pub mod Truth
+pub mod Reads
+pub mod Compared
+pub mod Falsifies
+pub mod Boxes
+pub mod Wide
+pub mod Examples
+pub mod Signs
+pub mod Table
+pub mod Sums
