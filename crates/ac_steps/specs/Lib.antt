@@ -1,0 +1,5 @@
+pub mod Opened
+pub mod Ways
+pub mod Plans
+pub mod Proofs
+pub mod Steps
