@@ -3,3 +3,4 @@ pub mod Ways
 pub mod Plans
 pub mod Proofs
 pub mod Steps
+pub mod FactDifferences

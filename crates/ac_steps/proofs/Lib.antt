@@ -1,0 +1,9 @@
+pub mod Readable
+pub mod Made
+pub mod RuleSteps
+pub mod Built
+pub mod Rows
+pub mod Weights
+pub mod FormWeights
+pub mod Widths
+pub mod Contradictions
