@@ -9,8 +9,8 @@ use Rattle.ac_proof.specs.declared.tree.ProofTree.{ProofTree, out-ProofTree}
 use Rattle.ac_proof.specs.Checked.{goal_of}
 use Rattle.ac_proof.specs.Rules.{in_order, equal_or_apart}
 use Rattle.ac_proof.proofs.Trees.{goal-out}
-use Rattle.ac_steps.specs.declared.plan.Way.TheVariants.{Turned, Between, ByOrder, ByEquality, Lemma}
-use Rattle.ac_steps.specs.Ways.{apart, below, supposed, shown_first}
+use Rattle.ac_steps.specs.declared.plan.Way.TheVariants.{FromDenial, Between, ByOrder, ByEquality, Lemma}
+use Rattle.ac_steps.specs.Ways.{apart, below, contexts_of, shown_first}
 use Rattle.ac_steps.specs.Proofs.{IsProof, AreProofs, IsBuilt}
 use Rattle.ac_steps.specs.Steps.{IsHypothesisAt, IsSplit, IsAbsurdity, IsClash, IsByCases, IsSupposing, IsApplied}
 use Rattle.ac_steps.proofs.Readable.{at_most_readable, equal_readable, below_readable, apart_readable, denied_terms, equal_terms}
@@ -29,10 +29,10 @@ by_order u v g trees p q e tree m split cases place hs ps l planned a =
     let b = known hs ((Le u v ∷ []) ∷ (below v u ∷ []) ∷ []) ps (g ∷ g ∷ []) trees (p ∷ q ∷ []) planned.3 m a in
     cases hs (Le u v) (below v u) (split hs planned.1.0 planned.1.1) b.0 b.1.0
 
-pub turned : (u v : Term) (place : ℕ) (trees : List ProofTree) (p c f h e tree : ProofTree) → trees ≡ p ∷ []
+pub from_denial : (u v : Term) (place : ℕ) (trees : List ProofTree) (p c f h e tree : ProofTree) → trees ≡ p ∷ []
   → ((hs : List Formula) → length hs ≡ place → IsProof (hs ++ Le u v ∷ []) (Not (Le u v)) p → IsProof (hs ++ Le u v ∷ []) False c)
-  → IsAbsurdity (below v u) c f → IsHypothesisAt place (below v u) h → IsSplit u v (in_order u v) e → IsByCases (below v u) e f h tree → IsBuilt place (Turned u v) (below v u) trees tree
-turned u v place trees p c f h e tree m contradicted absurdity hypothesis split cases hs ps l planned a =
+  → IsAbsurdity (below v u) c f → IsHypothesisAt place (below v u) h → IsSplit u v (in_order u v) e → IsByCases (below v u) e f h tree → IsBuilt place (FromDenial u v) (below v u) trees tree
+from_denial u v place trees p c f h e tree m contradicted absurdity hypothesis split cases hs ps l planned a =
     let b = known hs ((Le u v ∷ []) ∷ []) ps (Not (Le u v) ∷ []) trees (p ∷ []) planned.3.1 m a in
     let r : IsReadableTerm u × IsReadableTerm v = denied_terms u v (proof_readable (hs ++ Le u v ∷ []) (Not (Le u v)) p b.0) in
     cases hs (Le u v) (below v u) (split hs r.0 r.1)

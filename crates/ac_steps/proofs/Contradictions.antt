@@ -20,7 +20,7 @@ use Rattle.ac_diff.specs.declared.diff.Diff.{Diff}
 use Rattle.ac_diff.specs.Differences.{difference, side, total}
 use Rattle.ac_proof.specs.Linear.{fact, facts, facts_of_step, IsContradiction, IsLinear, next}
 use Rattle.ac_steps.specs.Opened.{hidden, formula_shape, formula_child, term_shape, term_child, array_shape, array_child}
-use Rattle.ac_steps.specs.FactDifferences.{weight, IsDifference, Says, Say, Contradict, reversed, once}
+use Rattle.ac_steps.specs.FactDifferences.{number_of_parts, IsDifference, Says, Say, Contradict, reversed, once}
 use Rattle.ac_steps.proofs.Weights.{constants, weights, combination_weight, no_parts}
 use Rattle.ac_steps.proofs.FormWeights.{reversed_weight}
 use Rattle.ac_steps.proofs.Widths.{IsNarrow, AllNarrow, normal_narrow, combination_exists}
@@ -31,7 +31,7 @@ module _ (sides : ℕ → List Part) where
   AreDifferences (l ∷ ls) (d ∷ ds) = IsDifference sides l d × AreDifferences ls ds
   AreDifferences ls ds = ⊥
 
-  weights_are : (g : Term → ℤ) (ls : List Linear) (ds : List Diff) → AreDifferences ls ds → weights g ls ≡ total (difference (λ k. weight g (sides k))) ds
+  weights_are : (g : Term → ℤ) (ls : List Linear) (ds : List Diff) → AreDifferences ls ds → weights g ls ≡ total (difference (λ k. number_of_parts g (sides k))) ds
   weights_are g [] [] h = refl
   weights_are g (l ∷ ls) (d ∷ ds) h = λ i. h.0.parts g i +ℤ weights_are g ls ds h.1 i
   weights_are g [] (d ∷ ds) h = absurd h
@@ -51,7 +51,7 @@ module _ (sides : ℕ → List Part) where
 
   contradicts : (ls : List Linear) (ds : List Diff) → AreDifferences ls ds → Contradict ds → (sum : Linear) → combination_of ls (once ls) ≡ Some sum → IsContradiction sum
   contradicts ls ds h c sum e =
-      let w : (g : Term → ℤ) → weight g sum.parts ≡ pos 0 = (λ g. (combination_weight g ls sum e).1 ∙ (weights_are g ls ds h ∙ c.cancel (λ k. weight g (sides k)))) in
+      let w : (g : Term → ℤ) → number_of_parts g sum.parts ≡ pos 0 = (λ g. (combination_weight g ls sum e).1 ∙ (weights_are g ls ds h ∙ c.cancel (λ k. number_of_parts g (sides k)))) in
       let k : sum.constant ≡ neg_ℤ (total (λ d. d.bound) ds) = (combination_weight (λ t. pos 0) ls sum e).0 ∙ constants_are ls ds h in
       (no_parts sum.parts (combination_ordered ls (once ls) sum e) w, above sum.constant (total (λ d. d.bound) ds) k c.below)
 
@@ -144,5 +144,5 @@ module _ (sides : ℕ → List Part) where
       let l : Linear = h.0 in
       (m, e, record {
         constant = turned_bound l.constant d.bound m.constant h.2.constant (reversed_weight (λ t. pos 0) u v l m h.1 e).0;
-        parts = λ g. turned_sides (weight g l.parts) (weight g m.parts) (side (λ k. weight g (sides k)) d.plus) (side (λ k. weight g (sides k)) d.minus) (h.2.parts g) (reversed_weight g u v l m h.1 e).1;
+        parts = λ g. turned_sides (number_of_parts g l.parts) (number_of_parts g m.parts) (side (λ k. number_of_parts g (sides k)) d.plus) (side (λ k. number_of_parts g (sides k)) d.minus) (h.2.parts g) (reversed_weight g u v l m h.1 e).1;
       })

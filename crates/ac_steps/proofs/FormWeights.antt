@@ -1,4 +1,4 @@
--- The weight of the form of a difference of terms, and what becomes of it where the difference is reversed.
+-- The number_of_parts of the form of a difference of terms, and what becomes of it where the difference is reversed.
 use Rattle.std.proofs.Common.{◌≡◌, ℤ, pos, negsuc, neg_ℤ, ◌+ℤ◌, ◌-ℤ◌, ◌*ℤ◌, List, [], map, Option, Some, None, option_map, refl, sym, ◌∙◌, ap, subst, arith}
 use Rattle.std.specs.Prelude.{IfSome}
 use Rattle.std.proofs.lemmas.Int.{ints}
@@ -14,7 +14,7 @@ use Rattle.ac_linear.proofs.Ring.{minus_one_mul, one_mul}
 use Rattle.ac_linear.proofs.Values.{said}
 use Rattle.ac_proof.specs.Linear.{next}
 use Rattle.ac_steps.proofs.Weights.{entries_weight, parts_of_entries, plus_weight, Added}
-use Rattle.ac_steps.specs.FactDifferences.{weight}
+use Rattle.ac_steps.specs.FactDifferences.{number_of_parts}
 
 module _ {A B : Type 0} where
   pub then_is : (o : Option A) (f : A → Option B) (y : B) → and_then o f ≡ Some y → (x : A) × (o ≡ Some x) × (f x ≡ Some y)
@@ -63,8 +63,8 @@ module _ (g : Term → ℤ) where
       let d : entries_weight g z.entries ≡ entries_weight g y.entries +ℤ (pos 1 *ℤ pos 0) = a.1 in
       (omega (arith, ints, c, m), omega (arith, ints, d, n))
 
-  form_weight : (z : Form) (l : Linear) → linear_of z ≡ l → (l.constant ≡ z.constant) × (weight g l.parts ≡ entries_weight g z.entries)
-  form_weight z l e = (ap (λ m. m.constant) (sym e), ap (λ m. weight g m.parts) (sym e) ∙ parts_of_entries g z.entries)
+  form_weight : (z : Form) (l : Linear) → linear_of z ≡ l → (l.constant ≡ z.constant) × (number_of_parts g l.parts ≡ entries_weight g z.entries)
+  form_weight z l e = (ap (λ m. m.constant) (sym e), ap (λ m. number_of_parts g m.parts) (sym e) ∙ parts_of_entries g z.entries)
 
   same_form : (o : Option Form) (x y : Form) → o ≡ Some x → o ≡ Some y → x ≡ y
   same_form o x y a b = some_is x y (sym a ∙ b)
@@ -76,7 +76,7 @@ module _ (g : Term → ℤ) where
   turned_weights l m wx wy wz a b c = omega (arith, ints, a, b, c)
 
   -- the form of v + 1 - u is 1 less that of u - v
-  pub reversed_weight : (u v : Term) (l m : Linear) → normal_of (Sub u v) ≡ Some l → normal_of (Sub (next v) u) ≡ Some m → (m.constant ≡ pos 1 -ℤ l.constant) × (weight g m.parts ≡ neg_ℤ (weight g l.parts))
+  pub reversed_weight : (u v : Term) (l m : Linear) → normal_of (Sub u v) ≡ Some l → normal_of (Sub (next v) u) ≡ Some m → (m.constant ≡ pos 1 -ℤ l.constant) × (number_of_parts g m.parts ≡ neg_ℤ (number_of_parts g l.parts))
   reversed_weight u v l m e f =
       let a = difference_parts u v l e in
       let b = difference_parts (next v) u m f in
@@ -89,4 +89,4 @@ module _ (g : Term → ℤ) where
       let s = form_weight a.2 l a.6 in
       let t = form_weight b.2 m b.6 in
       (turned_sums l.constant m.constant a.0.constant a.1.constant b.0.constant (s.0 ∙ p.0) r.0 (t.0 ∙ q.0),
-      turned_weights (weight g l.parts) (weight g m.parts) (entries_weight g a.0.entries) (entries_weight g a.1.entries) (entries_weight g b.0.entries) (s.1 ∙ p.1) r.1 (t.1 ∙ q.1))
+      turned_weights (number_of_parts g l.parts) (number_of_parts g m.parts) (entries_weight g a.0.entries) (entries_weight g a.1.entries) (entries_weight g b.0.entries) (s.1 ∙ p.1) r.1 (t.1 ∙ q.1))

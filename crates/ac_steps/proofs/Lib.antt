@@ -7,3 +7,8 @@ pub mod Weights
 pub mod FormWeights
 pub mod Widths
 pub mod Contradictions
+pub mod Wider
+pub mod Planned
+pub mod Unfolded
+pub mod UsedRows
+pub mod Firsts

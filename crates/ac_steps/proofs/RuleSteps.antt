@@ -4,6 +4,7 @@ use Rattle.ac_logic.specs.declared.formula.Term.{Term}
 use Rattle.ac_logic.specs.declared.formula.Formula.{Formula, False}
 use Rattle.ac_logic.specs.declared.formula.Formula.TheVariants.{Not, Or, Implies}
 use Rattle.ac_logic.specs.Readable.{IsReadable, IsReadableTerm}
+use Rattle.ac_proof.specs.declared.rule.Rule.{Rule}
 use Rattle.ac_proof.specs.declared.rule.Rule.TheVariants as rule
 use Rattle.ac_proof.specs.declared.tree.ProofTree.{ProofTree}
 use Rattle.ac_proof.specs.Rules.{in_order, equal_or_apart}
@@ -59,3 +60,7 @@ get_behind (h ∷ hs) f more = get_behind hs f more
 
 pub get_next : (hs : List Formula) (f : Formula) (place : ℕ) → length hs ≡ place → slice_get (hs ++ f ∷ []) place ≡ Some f
 get_next hs f place e = subst (λ n. slice_get (hs ++ f ∷ []) n ≡ Some f) e (get_behind hs f [])
+
+-- a tree's last step, with its goal and premises by other names
+pub made_as : (t : ProofTree) (r : Rule) (g f : Formula) (ts us : List ProofTree) → g ≡ f → ts ≡ us → IsMadeOf t r g ts → IsMadeOf t r f us
+made_as t r g f ts us e q m = subst (λ x. IsMadeOf t r x us) e (subst (IsMadeOf t r g) q m)

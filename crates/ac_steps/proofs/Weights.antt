@@ -1,4 +1,4 @@
--- The weight of a form: the sum of factor times the weight of the unit, whatever units weigh.
+-- The number_of_parts of a form: the sum of factor times the number_of_parts of the unit, whatever units weigh.
 use Rattle.std.proofs.Common.{◌≡◌, ℕ, zero, suc, ℤ, pos, negsuc, neg_ℤ, ◌+ℤ◌, ◌-ℤ◌, ◌*ℤ◌, List, [], ◌∷◌, map, Bool, true, false, Option, Some, None, option_map, refl, sym, ◌∙◌, ap, subst, if◌then◌else◌, arith}
 use Rattle.std.specs.Prelude.{IfSome, All, ◌≢◌}
 use Rattle.std.specs.Ordering.{int_eq, nat_cmp}
@@ -25,7 +25,7 @@ use Rattle.ac_linear.proofs.Ring.{add_mul, mul_assoc, mul_add, one_mul, minus_on
 use Rattle.ac_linear.proofs.Equal.{term_same, term_true, term_false}
 use Rattle.ac_linear.proofs.Values.{then_some, map_some, said, weaker, either_some, within_itself}
 use Rattle.ac_proof.specs.Linear.{next}
-use Rattle.ac_steps.specs.FactDifferences.{weight, once}
+use Rattle.ac_steps.specs.FactDifferences.{number_of_parts, once}
 
 pub same_unit : (p q : Entry) → side p q ≡ Same → p.unit ≡ q.unit
 same_unit p q =
@@ -49,13 +49,13 @@ module _ (g : Term → ℤ) where
 
   abbrev pub weights : List Linear → ℤ
   weights [] = pos 0
-  weights (l ∷ ls) = weight g l.parts +ℤ weights ls
+  weights (l ∷ ls) = number_of_parts g l.parts +ℤ weights ls
 
-  entries_of_parts : (ps : List Part) → entries_weight (map entry_of_part ps) ≡ weight g ps
+  entries_of_parts : (ps : List Part) → entries_weight (map entry_of_part ps) ≡ number_of_parts g ps
   entries_of_parts [] = refl
   entries_of_parts (p ∷ ps) = ap (λ x. (p.factor *ℤ g p.unit) +ℤ x) (entries_of_parts ps)
 
-  pub parts_of_entries : (ps : List Entry) → weight g (map part_of ps) ≡ entries_weight ps
+  pub parts_of_entries : (ps : List Entry) → number_of_parts g (map part_of ps) ≡ entries_weight ps
   parts_of_entries [] = refl
   parts_of_entries (p ∷ ps) = ap (λ x. (p.factor *ℤ g p.unit) +ℤ x) (parts_of_entries ps)
 
@@ -107,7 +107,7 @@ module _ (g : Term → ℤ) where
       let d : k *ℤ ((q.factor *ℤ g q.unit) +ℤ entries_weight qs) ≡ (k *ℤ (q.factor *ℤ g q.unit)) +ℤ (k *ℤ entries_weight qs) = mul_add k (q.factor *ℤ g q.unit) (entries_weight qs) in
       weaker (put_all r more k qs) _ P (λ rs h. omega (arith, ints, m, d, h)) (put_all_weight r more k qs))
 
-  -- the constant and the weight of x and k times y
+  -- the constant and the number_of_parts of x and k times y
   abbrev pub Added : Form → ℤ → Form → Form → Type 0
   Added x k y z = (z.constant ≡ x.constant +ℤ (k *ℤ y.constant)) × (entries_weight z.entries ≡ entries_weight x.entries +ℤ (k *ℤ entries_weight y.entries))
 
@@ -128,7 +128,7 @@ module _ (g : Term → ℤ) where
   once_more x y z l ls a c =
       let o : pos 1 *ℤ l.constant ≡ l.constant = one_mul l.constant in
       let d : pos 1 *ℤ entries_weight (map entry_of_part l.parts) ≡ entries_weight (map entry_of_part l.parts) = one_mul (entries_weight (map entry_of_part l.parts)) in
-      let e : entries_weight (map entry_of_part l.parts) ≡ weight g l.parts = entries_of_parts l.parts in
+      let e : entries_weight (map entry_of_part l.parts) ≡ number_of_parts g l.parts = entries_of_parts l.parts in
       (omega (arith, ints, a.0, c.0, o), omega (arith, ints, a.1, c.1, d, e))
 
   combined_weight : (x : Form) (ls : List Linear) → IfSome (combined_with x ls (once ls)) (AllAdded x ls)
@@ -138,38 +138,38 @@ module _ (g : Term → ℤ) where
       let a : Added x (pos 1) (form_of_linear l) y = said (plus Machine x (pos 1) (form_of_linear l)) y (Added x (pos 1) (form_of_linear l)) h (plus_weight Machine x (pos 1) (form_of_linear l)) in
       weaker (combined_with y ls (once ls)) (AllAdded y ls) (AllAdded x (l ∷ ls)) (λ z c. once_more x y z l ls a c) (combined_weight y ls))
 
-  -- the combination of facts, each once: its constant and its weight are the sums
-  pub combination_weight : (ls : List Linear) (sum : Linear) → combination_of ls (once ls) ≡ Some sum → (sum.constant ≡ constants ls) × (weight g sum.parts ≡ weights ls)
+  -- the combination of facts, each once: its constant and its number_of_parts are the sums
+  pub combination_weight : (ls : List Linear) (sum : Linear) → combination_of ls (once ls) ≡ Some sum → (sum.constant ≡ constants ls) × (number_of_parts g sum.parts ≡ weights ls)
   combination_weight ls sum h =
-      let P : Linear → Type 0 = (λ s. (s.constant ≡ constants ls) × (weight g s.parts ≡ weights ls)) in
+      let P : Linear → Type 0 = (λ s. (s.constant ≡ constants ls) × (number_of_parts g s.parts ≡ weights ls)) in
       said (combination_of ls (once ls)) sum P h
       (map_some (combined_with (number_form (pos 0)) ls (once ls)) linear_of P (λ z e.
       let c : AllAdded (number_form (pos 0)) ls z = said (combined_with (number_form (pos 0)) ls (once ls)) z (AllAdded (number_form (pos 0)) ls) e (combined_weight (number_form (pos 0)) ls) in
-      let w : weight g (map part_of z.entries) ≡ entries_weight z.entries = parts_of_entries z.entries in
+      let w : number_of_parts g (map part_of z.entries) ≡ entries_weight z.entries = parts_of_entries z.entries in
       (omega (arith, ints, c.0), omega (arith, ints, c.1, w))))
 
--- The weight that tells one unit from all others.
+-- The number_of_parts that tells one unit from all others.
 abbrev pub only : Term → Term → ℤ
 only t u = if term_eq t u then pos 1 else pos 0
 
-others : (t : Term) (ps : List Part) → All (λ q. t ≢ q.unit) ps → weight (only t) ps ≡ pos 0
+others : (t : Term) (ps : List Part) → All (λ q. t ≢ q.unit) ps → number_of_parts (only t) ps ≡ pos 0
 others t [] h = refl
 others t (p ∷ ps) h =
     let e : only t p.unit ≡ pos 0 = ap (λ b. if b then pos 1 else pos 0) (term_false t p.unit (h 0 p (omega arith))) in
     let a : p.factor *ℤ only t p.unit ≡ pos 0 = ap (λ x. p.factor *ℤ x) e ∙ *ℤ-zero p.factor in
-    let b : weight (only t) ps ≡ pos 0 = others t ps (λ n d lt. h (suc n) d (omega arith)) in
+    let b : number_of_parts (only t) ps ≡ pos 0 = others t ps (λ n d lt. h (suc n) d (omega arith)) in
     omega (arith, ints, a, b)
 
 one_times : (x : ℤ) → x *ℤ pos 1 ≡ x
 one_times x = *ℤ_comm x (pos 1) ∙ one_mul x
 
 -- Parts of different units, none with factor 0, that weigh 0 whatever units weigh: there are none.
-pub no_parts : (ps : List Part) → IsOrdered ps → ((g : Term → ℤ) → weight g ps ≡ pos 0) → ps ≡ []
+pub no_parts : (ps : List Part) → IsOrdered ps → ((g : Term → ℤ) → number_of_parts g ps ≡ pos 0) → ps ≡ []
 no_parts [] o h = refl
 no_parts (p ∷ ps) o h =
     let e : only p.unit p.unit ≡ pos 1 = ap (λ b. if b then pos 1 else pos 0) (term_true p.unit p.unit refl) in
     let a : p.factor *ℤ only p.unit p.unit ≡ p.factor = ap (λ x. p.factor *ℤ x) e ∙ one_times p.factor in
-    let r : weight (only p.unit) ps ≡ pos 0 = others p.unit ps (λ n d lt. o.once 0 (suc n) d (omega arith) (omega arith)) in
-    let w : (p.factor *ℤ only p.unit p.unit) +ℤ weight (only p.unit) ps ≡ pos 0 = h (only p.unit) in
+    let r : number_of_parts (only p.unit) ps ≡ pos 0 = others p.unit ps (λ n d lt. o.once 0 (suc n) d (omega arith) (omega arith)) in
+    let w : (p.factor *ℤ only p.unit p.unit) +ℤ number_of_parts (only p.unit) ps ≡ pos 0 = h (only p.unit) in
     let z : p.factor ≡ pos 0 = omega (arith, ints, a, r, w) in
     absurd (o.no_zero 0 p (omega arith) z)

@@ -1,5 +1,5 @@
 -- What facts say of differences of units, and when they contradict.
-use Rattle.std.specs.Prelude.{◌≡◌, ℕ, ℤ, pos, neg_ℤ, ◌+ℤ◌, ◌-ℤ◌, ◌*ℤ◌, ◌<ℤ◌, List, [], ◌∷◌, Some}
+use Rattle.std.specs.Prelude.{◌≡◌, ℕ, ℤ, pos, neg_ℤ, ◌+ℤ◌, ◌-ℤ◌, ◌*ℤ◌, ◌<ℤ◌, List, [], ◌∷◌, map, Some}
 use Rattle.ac_logic.specs.declared.formula.Term.{Term}
 use Rattle.ac_logic.specs.declared.formula.Formula.{Formula}
 use Rattle.ac_linear.specs.declared.linear.Linear.{Linear}
@@ -8,16 +8,16 @@ use Rattle.ac_diff.specs.declared.diff.Diff.{Diff}
 use Rattle.ac_diff.specs.Differences.{difference, total}
 use Rattle.ac_proof.specs.Linear.{fact}
 
--- the sum of factor times weight, whatever each unit weighs
-abbrev pub weight : (Term → ℤ) → List Part → ℤ
-weight g [] = pos 0
-weight g (p ∷ ps) = (p.factor *ℤ g p.unit) +ℤ weight g ps
+-- the sum of factor times number_of_parts, whatever each unit weighs
+abbrev pub number_of_parts : (Term → ℤ) → List Part → ℤ
+number_of_parts g [] = pos 0
+number_of_parts g (p ∷ ps) = (p.factor *ℤ g p.unit) +ℤ number_of_parts g ps
 
 -- A linear form, which is at most 0, is a difference of two sides, which is at most its bound: the constant is minus the
 -- bound, and the parts weigh what those of the first side do less those of the second. Side number k has the parts `sides k`.
 pub record IsDifference (sides : ℕ → List Part) (l : Linear) (d : Diff) : Type 0 where
   pub constant : l.constant ≡ neg_ℤ d.bound
-  pub parts : (g : Term → ℤ) → weight g l.parts ≡ difference (λ k. weight g (sides k)) d
+  pub parts : (g : Term → ℤ) → number_of_parts g l.parts ≡ difference (λ k. number_of_parts g (sides k)) d
 
 -- The formula u <= v says that the difference is at most its bound.
 abbrev pub Says : (ℕ → List Part) → Formula → Diff → Type 0
@@ -39,5 +39,4 @@ reversed d = record { plus = d.minus; minus = d.plus; bound = neg_ℤ d.bound -�
 
 -- each fact once
 abbrev pub once : {A : Type 0} → List A → List ℕ
-once [] = []
-once (x ∷ xs) = 1 ∷ once xs
+once xs = map (λ x. 1) xs

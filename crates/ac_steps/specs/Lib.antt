@@ -4,3 +4,4 @@ pub mod Plans
 pub mod Proofs
 pub mod Steps
 pub mod FactDifferences
+pub mod Contexts

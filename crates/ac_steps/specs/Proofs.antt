@@ -6,8 +6,8 @@ use Rattle.ac_proof.specs.declared.tree.ProofTree.{ProofTree, out-ProofTree}
 use Rattle.ac_proof.specs.Checked.{goal_of, Checked, HasFewPremises, under, later}
 use Rattle.ac_steps.specs.declared.plan.Way.{Way}
 use Rattle.ac_steps.specs.declared.plan.Plan.{Plan, out-Plan}
-use Rattle.ac_steps.specs.Ways.{supposed}
-use Rattle.ac_steps.specs.Plans.{IsPlanned, shown_by, supposed_at}
+use Rattle.ac_steps.specs.Ways.{contexts_of}
+use Rattle.ac_steps.specs.Plans.{IsPlanStep, shown_by, context_at}
 
 pub record IsProof (hs : List Formula) (f : Formula) (t : ProofTree) : Type 0 where
   pub goal : goal_of t ≡ f
@@ -29,8 +29,8 @@ AreProofs hs cs fs ts = ⊥
 -- A tree that is built from proofs of premises in this way: in every context that has so many hypotheses, it is a proof of
 -- the goal where the step is one there and the trees are proofs of its premises.
 abbrev pub IsBuilt : ℕ → Way → Formula → List ProofTree → ProofTree → Type 0
-IsBuilt place way g ts tree = (hs ps : List Formula) → length hs ≡ place → IsPlanned hs way g ps → AreProofs hs (supposed way g ps) ps ts → IsProof hs g tree
+IsBuilt place way g ts tree = (hs ps : List Formula) → length hs ≡ place → IsPlanStep hs way g ps → AreProofs hs (contexts_of way g ps) ps ts → IsProof hs g tree
 
 -- A proof of premise number i of a plan.
 abbrev pub IsPremiseProof : List Formula → Plan → ℕ → ProofTree → Type 0
-IsPremiseProof hs p i t = (q : Plan) → slice_get (out-Plan p).premises i ≡ Some q → IsProof (hs ++ supposed_at p i) (shown_by q) t
+IsPremiseProof hs p i t = (q : Plan) → slice_get (out-Plan p).premises i ≡ Some q → IsProof (hs ++ context_at p i) (shown_by q) t

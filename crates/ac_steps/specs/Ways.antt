@@ -10,7 +10,7 @@ use Rattle.ac_proof.specs.Linear.{next}
 use Rattle.ac_proof.specs.RuleNames.{plain_rule}
 use Rattle.ac_proof.specs.Rules.{IsInstance, contexts}
 use Rattle.ac_steps.specs.declared.plan.Way.{Way}
-use Rattle.ac_steps.specs.declared.plan.Way.TheVariants.{Hypothesis, Plain, Instance, NewName, Combination, Turned, Between, ByOrder, ByEquality, Lemma}
+use Rattle.ac_steps.specs.declared.plan.Way.TheVariants.{Hypothesis, Plain, Instance, NewName, Combination, FromDenial, Between, ByOrder, ByEquality, Lemma}
 use Rattle.ac_steps.specs.Opened.{hidden, formula_shape, formula_child, term_shape, term_child}
 
 -- s is below t
@@ -36,16 +36,16 @@ IsInstanceBy (Some r) hs g ps = IsInstance hs r g ps
 -- The goal g follows in this way from premises that show ps, under the hypotheses hs.
 abbrev pub Gives : List Formula → Way → Formula → List Formula → Type 0
 Gives hs Hypothesis g ps = (ps ≡ []) × Contains hs g
-Gives hs (Turned s t) g ps = (g ≡ below t s) × (ps ≡ Not (Le s t) ∷ [])
+Gives hs (FromDenial s t) g ps = (g ≡ below t s) × (ps ≡ Not (Le s t) ∷ [])
 Gives hs (Between s t) g ps = (g ≡ Eq s t) × (ps ≡ False ∷ False ∷ [])
 Gives hs (ByOrder s t) g ps = ps ≡ g ∷ g ∷ []
 Gives hs (ByEquality s t) g ps = ps ≡ g ∷ g ∷ g ∷ []
 Gives hs Lemma g ps = (a : Formula) × (ps ≡ a ∷ g ∷ [])
 Gives hs way g ps = IsInstanceBy (rule_by way) hs g ps
 
-abbrev pub contexts_by : Option Rule → Formula → List Formula → List (List Formula)
-contexts_by None g ps = []
-contexts_by (Some r) g ps = contexts r g ps
+abbrev pub contexts_by_rule : Option Rule → Formula → List Formula → List (List Formula)
+contexts_by_rule None g ps = []
+contexts_by_rule (Some r) g ps = contexts r g ps
 
 -- what the second of two premises may suppose: what the first shows
 abbrev pub shown_first : List Formula → List (List Formula)
@@ -53,13 +53,13 @@ shown_first [] = []
 shown_first (p ∷ ps) = [] ∷ (p ∷ []) ∷ []
 
 -- What each premise may suppose besides the hypotheses, premise by premise; those behind the list suppose no more.
-abbrev pub supposed : Way → Formula → List Formula → List (List Formula)
-supposed (Turned s t) g ps = (Le s t ∷ []) ∷ []
-supposed (Between s t) g ps = (apart s t ∷ below s t ∷ []) ∷ (apart s t ∷ below t s ∷ []) ∷ []
-supposed (ByOrder s t) g ps = (Le s t ∷ []) ∷ (below t s ∷ []) ∷ []
-supposed (ByEquality s t) g ps = (Eq s t ∷ []) ∷ (apart s t ∷ below s t ∷ []) ∷ (apart s t ∷ below t s ∷ []) ∷ []
-supposed Lemma g ps = shown_first ps
-supposed way g ps = contexts_by (rule_by way) g ps
+abbrev pub contexts_of : Way → Formula → List Formula → List (List Formula)
+contexts_of (FromDenial s t) g ps = (Le s t ∷ []) ∷ []
+contexts_of (Between s t) g ps = (apart s t ∷ below s t ∷ []) ∷ (apart s t ∷ below t s ∷ []) ∷ []
+contexts_of (ByOrder s t) g ps = (Le s t ∷ []) ∷ (below t s ∷ []) ∷ []
+contexts_of (ByEquality s t) g ps = (Eq s t ∷ []) ∷ (apart s t ∷ below s t ∷ []) ∷ (apart s t ∷ below t s ∷ []) ∷ []
+contexts_of Lemma g ps = shown_first ps
+contexts_of way g ps = contexts_by_rule (rule_by way) g ps
 
 -- The terms of the way are readable.
 abbrev pub HasReadableTerms : Way → Type 0

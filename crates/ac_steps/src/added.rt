@@ -4,10 +4,10 @@ ghost use Rattle.ac_logic.specs.declared.formula.Formula.{Le as AtMost, Eq as Eq
 ghost use Rattle.ac_logic.specs.declared.formula.Formula.TheVariants.{Not};
 ghost use Rattle.ac_proof.specs.RuleNames.{plain_rule};
 ghost use Rattle.ac_proof.specs.Rules.{antecedent, denied, sides};
-ghost use Rattle.ac_steps.specs.Plans.{shown_by, supposed_at};
-ghost use Rattle.ac_steps.specs.Ways.{apart, below, contexts_by, shown_first};
+ghost use Rattle.ac_steps.specs.Plans.{shown_by, context_at};
+ghost use Rattle.ac_steps.specs.Ways.{apart, below, contexts_by_rule, shown_first};
 
-use crate::comparison::{apart, at_most, below, equal};
+use crate::comparisons::{apart, at_most, below, equal};
 use crate::plan::{Plan, Way};
 use ac_logic::{Formula, Term};
 use ac_proof::RuleName;
@@ -15,16 +15,16 @@ use ac_shared::Shared;
 use std::alloc::{AllocError, Global};
 
 /// What premise number i may suppose besides the hypotheses.
-pub fn supposed(
+pub fn context_of(
     alloc: Global,
     plan: &Plan,
     i: usize,
 ) -> Result<Vec<Shared<Formula>>, AllocError>
-    ensures { IfOk result (λ more. more.items ≡ supposed_at plan.now i) }
+    ensures { IfOk result (λ more. more.items ≡ context_at plan.now i) }
 {
     match &plan.way {
         Way::Plain(name) => by_rule(alloc, *name, &plan.goal, plan.premises.as_slice(), i),
-        Way::Turned(s, t) => in_first(alloc, s, t, i),
+        Way::FromDenial(s, t) => in_first(alloc, s, t, i),
         Way::Between(s, t) => in_side(alloc, s, t, i),
         Way::ByOrder(s, t) => in_order_case(alloc, s, t, i),
         Way::ByEquality(s, t) => in_equality_case(alloc, s, t, i),
@@ -134,7 +134,7 @@ fn by_rule(
     premises: &[Shared<Plan>],
     i: usize,
 ) -> Result<Vec<Shared<Formula>>, AllocError>
-    ensures { IfOk result (λ more. more.items ≡ slice_index_or (contexts_by (plain_rule name) goal.now (map shown_by premises.now)) i []) }
+    ensures { IfOk result (λ more. more.items ≡ slice_index_or (contexts_by_rule (plain_rule name) goal.now (map shown_by premises.now)) i []) }
 {
     match name {
         RuleName::OrElim => side_of(alloc, premises, i),

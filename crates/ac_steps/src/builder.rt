@@ -1,12 +1,12 @@
 //! From a plan to a proof.
-ghost use Rattle.std.specs.Prelude.{◌≡◌, ℕ, ◌<◌, length, None, IfOk, OnOk};
+ghost use Rattle.std.specs.Prelude.{◌≡◌, ℕ, ◌<◌, ◌++◌, length, None, IfOk, OnOk};
 ghost use Rattle.ac_steps.specs.declared.plan.Plan.{out-Plan};
-ghost use Rattle.ac_steps.specs.Plans.{IsPlannedLast, Shows, formulas_of, shown_by, supposed_by};
+ghost use Rattle.ac_steps.specs.Plans.{IsLastStep, Shows, context_at, contexts_in, formulas_of, shown_by};
 ghost use Rattle.ac_steps.specs.Proofs.{AreProofs, IsPremiseProof, IsProof};
 ghost use Rattle.ac_steps.specs.Ways.{rule_by};
 
-use crate::added::supposed;
-use crate::cases::{between, by_equality, by_order, turned};
+use crate::added::context_of;
+use crate::cases::{between, by_equality, by_order, from_denial};
 use crate::hypothesis::hypothesis;
 use crate::lemma::by_lemma;
 use crate::plan::{Plan, Way};
@@ -33,7 +33,8 @@ pub fn tree_of(
         let tree = premise_tree(alloc, hyps, plan, i)?;
         trees.push(tree)?;
     }
-    assembled(alloc, hyps.as_slice(), plan, trees)
+    let whole = assembled(alloc, hyps.as_slice(), plan, trees)?;
+    Ok(whole)
 }
 
 /// The proof of premise number i, under what it may suppose.
@@ -50,12 +51,25 @@ fn premise_tree(
     ensures hyps { OnOk result (hyps.new.items ≡ hyps.old.items) }
 {
     let count = hyps.len();
-    let mut more = supposed(alloc, plan, i)?;
-    hyps.append(&mut more)?;
+    push_context(alloc, hyps, plan, i)?;
     let premises = plan.premises.as_slice();
     let tree = tree_of(alloc, hyps, premises[i].get())?;
     hyps.truncate(count);
     Ok(tree)
+}
+
+/// Pushes what premise number i may suppose besides the hypotheses.
+fn push_context(
+    alloc: Global,
+    hyps: &mut Vec<Shared<Formula>>,
+    plan: &Plan,
+    i: usize,
+) -> Result<(), AllocError>
+    ensures { OnOk result (hyps.new.items ≡ hyps.old.items ++ context_at plan.now i) }
+{
+    let mut more = context_of(alloc, plan, i)?;
+    hyps.append(&mut more)?;
+    Ok(())
 }
 
 /// The last step, behind the proofs of its premises.
@@ -65,12 +79,13 @@ fn assembled(
     plan: &Plan,
     trees: Items<ProofTree>,
 ) -> Result<ProofTree, AllocError>
-    requires planned { IsPlannedLast hyps.now plan.now }
-    requires proofs { AreProofs hyps.now (supposed_by plan.now) (formulas_of plan.now) trees }
+    requires planned { IsLastStep hyps.now plan.now }
+    requires proofs { AreProofs hyps.now (contexts_in plan.now) (formulas_of plan.now) trees }
     ensures { IfOk result (IsProof hyps.now (out-Plan plan.now).goal) }
 {
     let goal = plan.goal.share()?;
-    match rule_of(alloc, &plan.way)? {
+    let rule = rule_of(alloc, &plan.way)?;
+    match rule {
         Some(rule) => Ok(step(rule, goal, trees)),
         None => unfolded(alloc, hyps, plan, trees),
     }
@@ -99,8 +114,8 @@ fn unfolded(
     plan: &Plan,
     trees: Items<ProofTree>,
 ) -> Result<ProofTree, AllocError>
-    requires planned { IsPlannedLast hyps.now plan.now }
-    requires proofs { AreProofs hyps.now (supposed_by plan.now) (formulas_of plan.now) trees }
+    requires planned { IsLastStep hyps.now plan.now }
+    requires proofs { AreProofs hyps.now (contexts_in plan.now) (formulas_of plan.now) trees }
     requires no_rule { rule_by (out-Plan plan.now).way ≡ None }
     ensures { IfOk result (IsProof hyps.now (out-Plan plan.now).goal) }
 {
@@ -110,7 +125,7 @@ fn unfolded(
             drop(trees);
             hypothesis(alloc, hyps, &plan.goal)
         }
-        Way::Turned(s, t) => turned(alloc, place, s, t, trees),
+        Way::FromDenial(s, t) => from_denial(alloc, place, s, t, trees),
         Way::Between(s, t) => between(alloc, place, s, t, trees),
         Way::ByOrder(s, t) => by_order(alloc, s, t, &plan.goal, trees),
         Way::ByEquality(s, t) => by_equality(alloc, place, s, t, &plan.goal, trees),

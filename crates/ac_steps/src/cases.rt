@@ -2,11 +2,11 @@
 ghost use Rattle.std.specs.Prelude.{◌≡◌, ℕ, List, [], ◌∷◌, ◌++◌, length, IfOk};
 ghost use Rattle.ac_logic.specs.declared.formula.Formula.{Formula as AnyFormula, False as Falsity, Le as AtMost, Eq as Equal};
 ghost use Rattle.ac_logic.specs.declared.formula.Formula.TheVariants.{Not};
-ghost use Rattle.ac_steps.specs.declared.plan.Way.TheVariants.{Between, ByEquality, ByOrder, Turned};
+ghost use Rattle.ac_steps.specs.declared.plan.Way.TheVariants.{Between, ByEquality, ByOrder, FromDenial};
 ghost use Rattle.ac_steps.specs.Proofs.{IsBuilt, IsProof};
 ghost use Rattle.ac_steps.specs.Ways.{apart, below};
 
-use crate::comparison::{apart, at_most, below, equal};
+use crate::comparisons::{apart, at_most, below, equal};
 use crate::parts::{all_three, both, only};
 use crate::rules::{absurd, cases, clash, equality, hypothesis_at, order};
 use ac_logic::{Formula, Term};
@@ -34,7 +34,7 @@ pub fn by_order(
 }
 
 /// `t + 1 <= s` from `not s <= t`: in the case `s <= t` they contradict.
-pub fn turned(
+pub fn from_denial(
     alloc: Global,
     place: usize,
     s: &Shared<Term>,
@@ -42,7 +42,7 @@ pub fn turned(
     trees: Items<ProofTree>,
 ) -> Result<ProofTree, AllocError>
     requires { length trees ≡ 1 }
-    ensures { IfOk result (IsBuilt place (Turned s.now t.now) (below t.now s.now) trees) }
+    ensures { IfOk result (IsBuilt place (FromDenial s.now t.now) (below t.now s.now) trees) }
 {
     let contradiction = contradicted(alloc, place, s, t, only(trees))?;
     let goal = below(alloc, t, s)?;
@@ -63,8 +63,8 @@ fn contradicted(
 ) -> Result<ProofTree, AllocError>
     ensures { IfOk result (λ tree. (hs : List AnyFormula) → length hs ≡ place → IsProof (hs ++ AtMost s.now t.now ∷ []) (Not (AtMost s.now t.now)) denial → IsProof (hs ++ AtMost s.now t.now ∷ []) Falsity tree) }
 {
-    let supposed = hypothesis_at(alloc, place, at_most(alloc, s, t)?);
-    let tree = clash(alloc, denial, supposed)?;
+    let assumed = hypothesis_at(alloc, place, at_most(alloc, s, t)?);
+    let tree = clash(alloc, denial, assumed)?;
     Ok(tree)
 }
 

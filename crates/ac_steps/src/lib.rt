@@ -9,13 +9,19 @@
 mod added;
 mod builder;
 mod cases;
-mod comparison;
+mod comparisons;
+mod facts;
 mod hypothesis;
+mod laws;
 mod lemma;
 mod parts;
 mod plan;
 mod rules;
 mod step;
+mod usage;
 
 pub use builder::tree_of;
+pub use facts::{comparison, comparison_of_contradiction, contradiction};
+pub use laws::{comparison_law, contradiction_law, more_hypotheses_law, needless_denial_law, reversal_law, unused_hypothesis_law};
 pub use plan::{Plan, Way};
+pub use usage::uses;

@@ -3,7 +3,7 @@ ghost use Rattle.std.specs.Prelude.{IfOk};
 ghost use Rattle.ac_proof.specs.Rules.{equal_or_apart, in_order};
 ghost use Rattle.ac_steps.specs.Steps.{IsAbsurdity, IsApplied, IsByCases, IsClash, IsHypothesisAt, IsSplit, IsSupposing};
 
-use crate::comparison::{equal_or_apart, in_order};
+use crate::comparisons::{equal_or_apart, in_order};
 use crate::step::{one, step, three, two};
 use ac_logic::{Formula, Term};
 use ac_proof::{ProofTree, Rule};
