@@ -53,7 +53,7 @@ abbrev pub IsLastStep : List Formula → Plan → Type 0
 IsLastStep hs p = IsPlanStep hs (out-Plan p).way (out-Plan p).goal (formulas_of p)
 
 -- the last step of a plan, and the plans of its premises
-pub record IsPlanOf (p : Plan) (way : Way) (g : Formula) (ps : List Plan) : Type 0 where
-  pub way : (out-Plan p).way ≡ way
+pub record IsPlanOf (p : Plan) (w : Way) (g : Formula) (ps : List Plan) : Type 0 where
+  pub way : (out-Plan p).way ≡ w
   pub goal : (out-Plan p).goal ≡ g
   pub premises : (out-Plan p).premises ≡ ps

@@ -3,4 +3,4 @@ use Rattle.ac_steps.specs.FactDifferences.{once}
 use Rattle.ac_steps.proofs.facts.once_each.Given as goal
 
 abbrev pub invariant-loop-fact : goal.invariant-loop-fact
-invariant-loop-fact l = l.factors ≡ once (take l.fact-index l.facts)
+invariant-loop-fact l = l.factors ≡ once (take l._fact-index l.facts)
