@@ -3,17 +3,16 @@ use Rattle.std.proofs.Common.{◌≡◌, ℕ, List, [], ◌∷◌, ◌++◌, len
 use Rattle.std.proofs.lemmas.List.{append_assoc}
 use Rattle.ac_logic.specs.declared.formula.Term.{Term}
 use Rattle.ac_logic.specs.declared.formula.Formula.{Formula, False, Le, Eq}
-use Rattle.ac_logic.specs.declared.formula.Formula.TheVariants.{Not, Or, Implies}
-use Rattle.ac_logic.specs.Readable.{IsReadable, IsReadableTerm}
+use Rattle.ac_logic.specs.declared.formula.Formula.TheVariants.{Not, Implies}
+use Rattle.ac_logic.specs.Readable.{IsReadableTerm}
 use Rattle.ac_proof.specs.declared.tree.ProofTree.{ProofTree, out-ProofTree}
-use Rattle.ac_proof.specs.Checked.{goal_of}
 use Rattle.ac_proof.specs.Rules.{in_order, equal_or_apart}
 use Rattle.ac_proof.proofs.Trees.{goal-out}
 use Rattle.ac_steps.specs.declared.plan.Way.TheVariants.{FromDenial, Between, ByOrder, ByEquality, Lemma}
-use Rattle.ac_steps.specs.Ways.{apart, below, contexts_of, shown_first}
+use Rattle.ac_steps.specs.Ways.{apart, below, shown_first}
 use Rattle.ac_steps.specs.Proofs.{IsProof, AreProofs, IsBuilt}
 use Rattle.ac_steps.specs.Steps.{IsHypothesisAt, IsSplit, IsAbsurdity, IsClash, IsByCases, IsSupposing, IsApplied}
-use Rattle.ac_steps.proofs.Readable.{at_most_readable, equal_readable, below_readable, apart_readable, denied_terms, equal_terms}
+use Rattle.ac_steps.proofs.Readable.{at_most_readable, below_readable, apart_readable, denied_terms, equal_terms}
 use Rattle.ac_steps.proofs.Made.{proof_readable}
 use Rattle.ac_steps.proofs.RuleSteps.{get_next}
 
@@ -30,8 +29,8 @@ by_order u v g trees p q e tree m split cases place hs ps l planned a =
     cases hs (Le u v) (below v u) (split hs planned.1.0 planned.1.1) b.0 b.1.0
 
 pub from_denial : (u v : Term) (place : ℕ) (trees : List ProofTree) (p c f h e tree : ProofTree) → trees ≡ p ∷ []
-  → ((hs : List Formula) → length hs ≡ place → IsProof (hs ++ Le u v ∷ []) (Not (Le u v)) p → IsProof (hs ++ Le u v ∷ []) False c)
-  → IsAbsurdity (below v u) c f → IsHypothesisAt place (below v u) h → IsSplit u v (in_order u v) e → IsByCases (below v u) e f h tree → IsBuilt place (FromDenial u v) (below v u) trees tree
+    → ((hs : List Formula) → length hs ≡ place → IsProof (hs ++ Le u v ∷ []) (Not (Le u v)) p → IsProof (hs ++ Le u v ∷ []) False c)
+    → IsAbsurdity (below v u) c f → IsHypothesisAt place (below v u) h → IsSplit u v (in_order u v) e → IsByCases (below v u) e f h tree → IsBuilt place (FromDenial u v) (below v u) trees tree
 from_denial u v place trees p c f h e tree m contradicted absurdity hypothesis split cases hs ps l planned a =
     let b = known hs ((Le u v ∷ []) ∷ []) ps (Not (Le u v) ∷ []) trees (p ∷ []) planned.3.1 m a in
     let r : IsReadableTerm u × IsReadableTerm v = denied_terms u v (proof_readable (hs ++ Le u v ∷ []) (Not (Le u v)) p b.0) in

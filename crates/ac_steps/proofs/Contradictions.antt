@@ -1,5 +1,5 @@
 -- Facts whose differences contradict make a `linear` step.
-use Rattle.std.proofs.Common.{◌≡◌, ℕ, zero, suc, ◌+◌, ◌<◌, ◌^◌, ℤ, pos, neg_ℤ, ◌+ℤ◌, ◌-ℤ◌, ◌*ℤ◌, List, [], ◌∷◌, ◌++◌, length, map, Bool, true, false, if◌then◌else◌, Option, Some, None, option_map, refl, sym, ap, ◌∙◌, subst, arith}
+use Rattle.std.proofs.Common.{◌≡◌, ℕ, suc, ◌+◌, ◌<◌, ◌^◌, ℤ, pos, neg_ℤ, ◌+ℤ◌, ◌-ℤ◌, ◌*ℤ◌, List, [], ◌∷◌, length, map, if◌then◌else◌, Some, option_map, refl, ap, ◌∙◌, arith}
 use Rattle.std.specs.Ordering.{int_eq}
 use Rattle.std.proofs.lemmas.Int.{ints}
 use Rattle.std.proofs.Math.IntN.{zero-*ℤ}
@@ -8,18 +8,16 @@ use Rattle.ac_logic.specs.declared.formula.Term.{Term}
 use Rattle.ac_logic.specs.declared.formula.Term.TheVariants.{Sub}
 use Rattle.ac_logic.specs.declared.formula.Formula.{Formula, False, Le}
 use Rattle.ac_linear.specs.declared.entry.Entry.{Entry}
-use Rattle.ac_linear.specs.declared.entry.Form.{Form}
 use Rattle.ac_linear.specs.declared.range.Range.TheVariants.{Machine}
 use Rattle.ac_linear.specs.declared.linear.Linear.{Linear}
 use Rattle.ac_linear.specs.declared.linear.Part.{Part}
-use Rattle.ac_linear.specs.NormalForm.{within, and_then, normal_of, number_form, plus, put_in, put_all, put_multiple, linear_of}
+use Rattle.ac_linear.specs.NormalForm.{within, and_then, normal_of, number_form, plus, put_in, put_all, linear_of}
 use Rattle.ac_linear.specs.Combination.{combination_of, combined_with, form_of_linear, entry_of_part}
-use Rattle.ac_linear.specs.WellOrdered.{IsOrdered}
 use Rattle.ac_linear.proofs.Ordered.{normal_ordered, combination_ordered}
 use Rattle.ac_diff.specs.declared.diff.Diff.{Diff}
 use Rattle.ac_diff.specs.Differences.{difference, side, total}
 use Rattle.ac_proof.specs.Linear.{fact, facts, facts_of_step, IsContradiction, IsLinear, next}
-use Rattle.ac_steps.specs.Opened.{hidden, formula_shape, formula_child, term_shape, term_child, array_shape, array_child}
+use Rattle.ac_steps.specs.Opened.{hidden, formula_shape, formula_child}
 use Rattle.ac_steps.specs.FactDifferences.{number_of_parts, IsDifference, Says, Say, Contradict, reversed, once}
 use Rattle.ac_steps.proofs.Weights.{constants, weights, combination_weight, no_parts}
 use Rattle.ac_steps.proofs.FormWeights.{reversed_weight}
@@ -141,8 +139,11 @@ module _ (sides : ℕ → List Part) where
   pub reversed_says : (u v : Term) (d : Diff) (m : Linear) → Says sides (Le u v) d → normal_of (Sub (next v) u) ≡ Some m → Says sides (Le (next v) u) (reversed d)
   unfolding hidden formula_shape formula_child
   reversed_says u v d m h e =
-      let l : Linear = h.0 in
-      (m, e, record {
-        constant = turned_bound l.constant d.bound m.constant h.2.constant (reversed_weight (λ t. pos 0) u v l m h.1 e).0;
-        parts = λ g. turned_sides (number_of_parts g l.parts) (number_of_parts g m.parts) (side (λ k. number_of_parts g (sides k)) d.plus) (side (λ k. number_of_parts g (sides k)) d.minus) (h.2.parts g) (reversed_weight g u v l m h.1 e).1;
-      })
+      let l : Linear = h.0 in (
+        m,
+        e,
+        record {
+          constant = turned_bound l.constant d.bound m.constant h.2.constant (reversed_weight (λ t. pos 0) u v l m h.1 e).0;
+          parts = λ g. turned_sides (number_of_parts g l.parts) (number_of_parts g m.parts) (side (λ k. number_of_parts g (sides k)) d.plus) (side (λ k. number_of_parts g (sides k)) d.minus) (h.2.parts g) (reversed_weight g u v l m h.1 e).1;
+        },
+      )

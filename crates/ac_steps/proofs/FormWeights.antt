@@ -1,15 +1,14 @@
 -- The number_of_parts of the form of a difference of terms, and what becomes of it where the difference is reversed.
-use Rattle.std.proofs.Common.{◌≡◌, ℤ, pos, negsuc, neg_ℤ, ◌+ℤ◌, ◌-ℤ◌, ◌*ℤ◌, List, [], map, Option, Some, None, option_map, refl, sym, ◌∙◌, ap, subst, arith}
-use Rattle.std.specs.Prelude.{IfSome}
+use Rattle.std.proofs.Common.{◌≡◌, ℤ, pos, negsuc, neg_ℤ, ◌+ℤ◌, ◌-ℤ◌, ◌*ℤ◌, Option, Some, None, option_map, refl, sym, ◌∙◌, ap, subst, arith}
 use Rattle.std.proofs.lemmas.Int.{ints}
-use Rattle.ac_logic.specs.declared.formula.Term.{Term, Num}
+use Rattle.ac_logic.specs.declared.formula.Term.{Term}
 use Rattle.ac_logic.specs.declared.formula.Term.TheVariants.{Sub}
-use Rattle.ac_logic.specs.Patterns.{Difference, Sum}
+use Rattle.ac_logic.specs.Patterns.{Difference}
 use Rattle.ac_linear.specs.declared.entry.Form.{Form}
 use Rattle.ac_linear.specs.declared.range.Range.TheVariants.{Coefficient}
 use Rattle.ac_linear.specs.declared.linear.Linear.{Linear}
 use Rattle.ac_linear.specs.Opened.{hidden, term_shape, term_child, array_shape, array_child}
-use Rattle.ac_linear.specs.NormalForm.{and_then, number_form, plus, part_of, linear_of, form_of, normal_of}
+use Rattle.ac_linear.specs.NormalForm.{and_then, number_form, plus, linear_of, form_of, normal_of}
 use Rattle.ac_linear.proofs.Ring.{minus_one_mul, one_mul}
 use Rattle.ac_linear.proofs.Values.{said}
 use Rattle.ac_proof.specs.Linear.{next}
@@ -87,6 +86,7 @@ module _ (g : Term → ℤ) where
       let q = less b.0 a.0 b.2 (subst (λ z. plus Coefficient b.0 (negsuc 0) z ≡ Some b.2) x b.5) in
       let r = one_more a.1 b.0 (subst (λ z. plus Coefficient z (pos 1) (number_form (pos 1)) ≡ Some b.0) y c.2) in
       let s = form_weight a.2 l a.6 in
-      let t = form_weight b.2 m b.6 in
-      (turned_sums l.constant m.constant a.0.constant a.1.constant b.0.constant (s.0 ∙ p.0) r.0 (t.0 ∙ q.0),
-      turned_weights (number_of_parts g l.parts) (number_of_parts g m.parts) (entries_weight g a.0.entries) (entries_weight g a.1.entries) (entries_weight g b.0.entries) (s.1 ∙ p.1) r.1 (t.1 ∙ q.1))
+      let t = form_weight b.2 m b.6 in (
+        turned_sums l.constant m.constant a.0.constant a.1.constant b.0.constant (s.0 ∙ p.0) r.0 (t.0 ∙ q.0),
+        turned_weights (number_of_parts g l.parts) (number_of_parts g m.parts) (entries_weight g a.0.entries) (entries_weight g a.1.entries) (entries_weight g b.0.entries) (s.1 ∙ p.1) r.1 (t.1 ∙ q.1),
+      )

@@ -1,11 +1,11 @@
 -- A tree is a proof where its last step is one and its premises are proofs.
-use Rattle.std.proofs.Common.{◌≡◌, ℕ, ◌<◌, ◌^◌, List, [], ◌∷◌, ◌++◌, length, map, refl, sym, ap, subst, ◌∙◌, arith}
+use Rattle.std.proofs.Common.{◌≡◌, ◌<◌, ◌^◌, List, [], ◌∷◌, length, map, refl, sym, subst, ◌∙◌}
 use Rattle.ac_logic.specs.declared.formula.Formula.{Formula}
 use Rattle.ac_logic.specs.Readable.{IsReadable}
 use Rattle.ac_proof.specs.declared.rule.Rule.{Rule}
 use Rattle.ac_proof.specs.declared.tree.ProofTree.{ProofTree, ProofTree', out-ProofTree}
 use Rattle.ac_proof.specs.Rules.{IsInstance, contexts}
-use Rattle.ac_proof.specs.Checked.{HasReadableTerm, Checked, goal_of, under, later}
+use Rattle.ac_proof.specs.Checked.{HasReadableTerm, Checked, goal_of, later}
 use Rattle.ac_proof.proofs.Trees.{CheckedAll, CheckedParts, AllHaveFew, FewParts, goal-out, checked-out, few-out}
 use Rattle.ac_steps.specs.Proofs.{IsProof, IsMadeOf, AreProofs}
 

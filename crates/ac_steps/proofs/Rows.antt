@@ -1,6 +1,5 @@
 -- A plan as its way, its goal and the list of its premises.
 use Rattle.std.proofs.Common.{◌≡◌, ℕ, zero, suc, ◌+◌, ◌<◌, ◌≤◌, ◌*◌, max, List, [], ◌∷◌, ◌++◌, length, map, Some, slice_get, get_or, refl, sym, ap, subst, ◌∙◌, arith, append-nil}
-use Rattle.std.proofs.lemmas.Option.{get_or_from_slice_get}
 use denote.Hole.Carrier as carrier
 use denote.Param.Weighed.{most, at_most}
 use Rattle.ac_logic.specs.declared.formula.Formula.{Formula}
@@ -82,9 +81,10 @@ premise_shows hs p i q h e = shows_at hs (contexts_in p) (out-Plan p).premises i
 
 proofs_of : (hs : List Formula) (cs : List (List Formula)) (ps : List Plan) (ts : List ProofTree) → length ts ≡ length ps → ((k : ℕ) (t : ProofTree) (q : Plan) → slice_get ts k ≡ Some t → slice_get ps k ≡ Some q → IsProof (hs ++ get_or cs k []) (shown_by q) t) → AreProofs hs cs (map shown_by ps) ts
 proofs_of hs cs [] [] l h = tt
-proofs_of hs cs (p ∷ ps) (t ∷ ts) l h =
-    (subst (λ gs. IsProof gs (shown_by p) t) (under_is hs cs) (h zero t p refl refl),
-    proofs_of hs (later cs) ps ts (omega arith) (λ k u q a b. subst (λ c. IsProof (hs ++ c) (shown_by q) u) (later_is cs k) (h (suc k) u q a b)))
+proofs_of hs cs (p ∷ ps) (t ∷ ts) l h = (
+  subst (λ gs. IsProof gs (shown_by p) t) (under_is hs cs) (h zero t p refl refl),
+  proofs_of hs (later cs) ps ts (omega arith) (λ k u q a b. subst (λ c. IsProof (hs ++ c) (shown_by q) u) (later_is cs k) (h (suc k) u q a b)),
+)
 proofs_of hs cs [] (t ∷ ts) l h = absurd (omega arith)
 proofs_of hs cs (p ∷ ps) [] l h = absurd (omega arith)
 

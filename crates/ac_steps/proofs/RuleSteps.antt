@@ -1,9 +1,9 @@
 -- The steps of rules that a step of a plan stands for.
-use Rattle.std.proofs.Common.{◌≡◌, ℕ, zero, suc, ◌<◌, ◌^◌, List, [], ◌∷◌, ◌++◌, length, Some, slice_get, refl, sym, ap, subst, ◌∙◌, arith, append-nil}
+use Rattle.std.proofs.Common.{◌≡◌, ℕ, List, [], ◌∷◌, ◌++◌, length, Some, slice_get, refl, sym, subst, arith, append-nil}
 use Rattle.ac_logic.specs.declared.formula.Term.{Term}
 use Rattle.ac_logic.specs.declared.formula.Formula.{Formula, False}
 use Rattle.ac_logic.specs.declared.formula.Formula.TheVariants.{Not, Or, Implies}
-use Rattle.ac_logic.specs.Readable.{IsReadable, IsReadableTerm}
+use Rattle.ac_logic.specs.Readable.{IsReadable}
 use Rattle.ac_proof.specs.declared.rule.Rule.{Rule}
 use Rattle.ac_proof.specs.declared.rule.Rule.TheVariants as rule
 use Rattle.ac_proof.specs.declared.tree.ProofTree.{ProofTree}

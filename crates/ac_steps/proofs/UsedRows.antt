@@ -3,7 +3,6 @@ use Rattle.std.proofs.Common.{◌≡◌, ℕ, zero, suc, ◌+◌, ◌<◌, ◌�
 use Rattle.std.proofs.lemmas.Bool.Decides.{nat_tests}
 use denote.Hole.Carrier as carrier
 use Rattle.ac_logic.specs.declared.formula.Formula.{Formula}
-use Rattle.ac_steps.specs.declared.plan.Way.{Way}
 use Rattle.ac_steps.specs.declared.plan.Plan.{Plan, Plan', out-Plan, end_of-Plan as no_more, more_of-Plan as shared, items-the_row-Plan-premises-1, items_shown-the_row-Plan-premises-1-1}
 use Rattle.ac_steps.specs.declared.plan.Plan.TheBlock.{Row_of-Plan-premises-1 as Row_of-Plans, end_of-Plan-premises-1 as end_of-Plans, more_of-Plan-premises-1 as more_of-Plans}
 use Rattle.ac_steps.specs.Contexts.{IsHypothesis, Uses, SomeUses}

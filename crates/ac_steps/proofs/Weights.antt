@@ -1,30 +1,26 @@
 -- The number_of_parts of a form: the sum of factor times the number_of_parts of the unit, whatever units weigh.
-use Rattle.std.proofs.Common.{◌≡◌, ℕ, zero, suc, ℤ, pos, negsuc, neg_ℤ, ◌+ℤ◌, ◌-ℤ◌, ◌*ℤ◌, List, [], ◌∷◌, map, Bool, true, false, Option, Some, None, option_map, refl, sym, ◌∙◌, ap, subst, if◌then◌else◌, arith}
+use Rattle.std.proofs.Common.{◌≡◌, suc, ℤ, pos, ◌+ℤ◌, ◌*ℤ◌, List, [], ◌∷◌, map, true, false, Some, option_map, refl, sym, ◌∙◌, ap, if◌then◌else◌, arith}
 use Rattle.std.specs.Prelude.{IfSome, All, ◌≢◌}
 use Rattle.std.specs.Ordering.{int_eq, nat_cmp}
 use Rattle.std.specs.Cmp.Lexicographic.{slice_cmp}
 use Rattle.std.specs.declared.cmp.Ordering.TheVariants.{Less, Equal, Greater}
 use Rattle.std.proofs.lemmas.Int.{ints}
 use Rattle.std.proofs.Math.IntN.{zero-*ℤ, *ℤ-zero, *ℤ_comm}
-use Rattle.ac_logic.specs.declared.formula.Term.{Term, Num}
-use Rattle.ac_logic.specs.declared.formula.Term.TheVariants.{Sub}
-use Rattle.ac_logic.specs.Patterns.{Difference, Sum}
+use Rattle.ac_logic.specs.declared.formula.Term.{Term}
 use Rattle.ac_linear.specs.declared.entry.Entry.{Entry}
 use Rattle.ac_linear.specs.declared.entry.Form.{Form}
 use Rattle.ac_linear.specs.declared.range.Range.{Range}
-use Rattle.ac_linear.specs.declared.range.Range.TheVariants.{Coefficient, Machine}
+use Rattle.ac_linear.specs.declared.range.Range.TheVariants.{Machine}
 use Rattle.ac_linear.specs.declared.place.Side.TheVariants.{Before, Same, Behind}
 use Rattle.ac_linear.specs.declared.linear.Part.{Part}
 use Rattle.ac_linear.specs.declared.linear.Linear.{Linear}
-use Rattle.ac_linear.specs.Opened.{hidden, term_shape, term_child, array_shape, array_child}
 use Rattle.ac_linear.specs.TermEquality.{term_eq}
-use Rattle.ac_linear.specs.NormalForm.{within, and_then, number_form, with_factor, by_order, side, by_side, put_in, put_multiple, put_all, plus, part_of, linear_of, form_of, normal_of}
+use Rattle.ac_linear.specs.NormalForm.{within, number_form, with_factor, by_order, side, by_side, put_in, put_multiple, put_all, plus, part_of, linear_of}
 use Rattle.ac_linear.specs.Combination.{entry_of_part, form_of_linear, combined_with, combination_of}
 use Rattle.ac_linear.specs.WellOrdered.{IsOrdered}
-use Rattle.ac_linear.proofs.Ring.{add_mul, mul_assoc, mul_add, one_mul, minus_one_mul}
+use Rattle.ac_linear.proofs.Ring.{add_mul, mul_assoc, mul_add, one_mul}
 use Rattle.ac_linear.proofs.Equal.{term_same, term_true, term_false}
 use Rattle.ac_linear.proofs.Values.{then_some, map_some, said, weaker, either_some, within_itself}
-use Rattle.ac_proof.specs.Linear.{next}
 use Rattle.ac_steps.specs.FactDifferences.{number_of_parts, once}
 
 pub same_unit : (p q : Entry) → side p q ≡ Same → p.unit ≡ q.unit

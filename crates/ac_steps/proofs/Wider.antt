@@ -1,5 +1,5 @@
 -- A plan stays one in a context that has what it uses: under more hypotheses, and without one that it does not use.
-use Rattle.std.proofs.Common.{◌≡◌, ℕ, zero, suc, ◌<◌, List, [], ◌∷◌, ◌++◌, length, ◌⊎◌, inl, inr, ⊎_elim, refl, sym, ap, subst, ◌∙◌, arith, append-nil, length-append}
+use Rattle.std.proofs.Common.{◌≡◌, ℕ, zero, suc, ◌<◌, List, [], ◌∷◌, ◌++◌, length, inl, inr, ⊎_elim, sym, subst, arith, append-nil}
 use Rattle.std.proofs.lemmas.List.{append_assoc}
 use Rattle.std.proofs.lemmas.List.Elements.{Contains-get_or, Contains-append_left, Contains-append_right, Contains-append_cases}
 use Rattle.std.specs.Prelude.{All, Contains, slice_index_or}
@@ -9,14 +9,13 @@ use Rattle.ac_logic.specs.Absence.{IsAbsent}
 use Rattle.ac_proof.specs.declared.rule_name.RuleName.{RuleName}
 use Rattle.ac_proof.specs.declared.rule_name.RuleName.TheVariants as name
 use Rattle.ac_proof.specs.New.{IsNew}
-use Rattle.ac_proof.specs.Checked.{under, later}
 use Rattle.ac_proof.specs.RuleNames.{plain_rule}
 use Rattle.ac_steps.specs.declared.plan.Way.{Way}
 use Rattle.ac_steps.specs.declared.plan.Way.TheVariants.{Hypothesis, Plain, Instance, NewName, Combination, FromDenial, Between, ByOrder, ByEquality, Lemma}
 use Rattle.ac_steps.specs.declared.plan.Plan.{Plan, Plan', end_of-Plan as no_more, more_of-Plan as shared}
 use Rattle.ac_steps.specs.declared.plan.Plan.TheBlock.{Row_of-Plan-premises-1 as Row_of-Plans, end_of-Plan-premises-1 as end_of-Plans, more_of-Plan-premises-1 as more_of-Plans}
 use Rattle.ac_steps.specs.Ways.{Gives, IsInstanceBy, contexts_of}
-use Rattle.ac_steps.specs.Plans.{all_shown, IsPlanStep, Shows, EachShows}
+use Rattle.ac_steps.specs.Plans.{all_shown, Shows, EachShows}
 use Rattle.ac_steps.specs.Contexts.{AreAmong, IsNewName, HasNewNames, EachHasNewNames, IsHypothesis, Uses, SomeUses}
 
 module _ (P : Formula → Type 0) where
@@ -86,9 +85,10 @@ module _ (Q : Formula → Type 0) where
       each_elsewhere : {n : _} (more : List Formula) (cs : List (List Formula)) (row : Row_of-Plans n) → EachKeeps row → EachHasNewNames gs row → EachShows (hs ++ more) cs row → EachShows (gs ++ more) cs row
       each_elsewhere more cs end_of-Plans q new h = tt
       each_elsewhere more [] (more_of-Plans s (shared p no_more) row) q new h = (elsewhere more p q.0 new.0 h.0, each_elsewhere more [] row q.1 new.1 h.1)
-      each_elsewhere more (c ∷ cs) (more_of-Plans s (shared p no_more) row) q new h =
-          (subst (λ xs. Shows xs p) (sym (append_assoc gs more c)) (elsewhere (more ++ c) p q.0 new.0 (subst (λ xs. Shows xs p) (append_assoc hs more c) h.0)),
-          each_elsewhere more cs row q.1 new.1 h.1)
+      each_elsewhere more (c ∷ cs) (more_of-Plans s (shared p no_more) row) q new h = (
+        subst (λ xs. Shows xs p) (sym (append_assoc gs more c)) (elsewhere (more ++ c) p q.0 new.0 (subst (λ xs. Shows xs p) (append_assoc hs more c) h.0)),
+        each_elsewhere more cs row q.1 new.1 h.1,
+      )
 
 -- ---- under more hypotheses
 

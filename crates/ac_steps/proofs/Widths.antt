@@ -1,13 +1,12 @@
 -- Normal forms have numbers of at most 2^62 in magnitude, so the sum of fewer than 2^64 of them stays within 128 bits.
-use Rattle.std.proofs.Common.{◌≡◌, ◌⊎◌, inl, inr, ⊎_elim, ℕ, zero, suc, ◌+◌, ◌*◌, ◌≤◌, ◌<◌, ◌^◌, ◌-◌, ℤ, pos, negsuc, neg_ℤ, ◌+ℤ◌, ◌*ℤ◌, ◌≤ℤ◌, List, [], ◌∷◌, length, map, Bool, true, false, Option, Some, None, option_map, refl, sym, ◌∙◌, ap, subst, if◌then◌else◌, arith}
-use Rattle.std.specs.Prelude.{IfSome, All, AllPairs, ◌≢◌,  ⊤, int_lt}
-use Rattle.std.specs.Ordering.{int_eq, nat_cmp}
+use Rattle.std.proofs.Common.{◌≡◌, ◌⊎◌, inl, inr, ⊎_elim, ℕ, suc, ◌+◌, ◌*◌, ◌≤◌, ◌<◌, ◌^◌, ◌-◌, ℤ, pos, negsuc, neg_ℤ, ◌+ℤ◌, ◌*ℤ◌, ◌≤ℤ◌, List, [], ◌∷◌, length, map, true, false, Option, Some, None, option_map, refl, sym, ◌∙◌, ap, subst, if◌then◌else◌, arith}
+use Rattle.std.specs.Prelude.{IfSome, All, AllPairs, ◌≢◌, ⊤}
+use Rattle.std.specs.Ordering.{int_eq}
 use Rattle.std.proofs.lemmas.Int.{ints}
 use Rattle.ac_logic.specs.declared.formula.Term.{Term, Num, Bound}
 use Rattle.ac_logic.specs.Patterns.{Scalar, ReadOf, Sum, Difference, Product, Negative}
 use Rattle.ac_linear.specs.declared.entry.Entry.{Entry}
 use Rattle.ac_linear.specs.declared.entry.Form.{Form}
-use Rattle.ac_linear.specs.declared.range.Range.{Range}
 use Rattle.ac_linear.specs.declared.range.Range.TheVariants.{Coefficient, Machine}
 use Rattle.ac_linear.specs.declared.place.Side.TheVariants.{Before, Same, Behind}
 use Rattle.ac_linear.specs.declared.linear.Part.{Part}
@@ -17,7 +16,7 @@ use Rattle.ac_linear.specs.NormalForm.{is_in, within, and_then, number_form, uni
 use Rattle.ac_linear.specs.Combination.{entry_of_part, form_of_linear, combined_with, combination_of}
 use Rattle.ac_linear.specs.WellOrdered.{IsOrdered}
 use Rattle.ac_linear.proofs.Ring.{one_mul}
-use Rattle.ac_linear.proofs.Values.{then_some, map_some, said, weaker, either_some, within_itself}
+use Rattle.ac_linear.proofs.Values.{then_some, map_some, said, either_some}
 use Rattle.ac_steps.specs.FactDifferences.{once}
 use Rattle.ac_steps.proofs.Weights.{same_unit}
 
@@ -150,8 +149,8 @@ pub record IsNarrow (l : Linear) : Type 0 where
 pub normal_narrow : (t : Term) (l : Linear) → normal_of t ≡ Some l → IsOrdered l.parts → IsNarrow l
 normal_narrow t l e o =
     let s : Small limit l.constant × SmallParts l.parts = said (normal_of t) l (λ m. Small limit m.constant × SmallParts m.parts) e
-        (map_some (form_of t) linear_of (λ m. Small limit m.constant × SmallParts m.parts) (λ x f.
-        let r : IsSmall limit x = said (form_of t) x (IsSmall limit) f (form_small t) in (r.0, small_parts x.entries r.1))) in
+    (map_some (form_of t) linear_of (λ m. Small limit m.constant × SmallParts m.parts) (λ x f.
+    let r : IsSmall limit x = said (form_of t) x (IsSmall limit) f (form_small t) in (r.0, small_parts x.entries r.1))) in
     record { constant = s.0; parts = s.1; once = o.once }
 
 -- ---- the sum on its way

@@ -1,5 +1,5 @@
 -- Plans in other contexts: under more hypotheses, and without one that is not used.
-use Rattle.std.specs.Prelude.{◌≡◌, ◌⊎◌, ℕ, List, [], ◌∷◌, All, Contains}
+use Rattle.std.specs.Prelude.{◌≡◌, ◌⊎◌, List, [], ◌∷◌, All, Contains}
 use Rattle.ac_logic.specs.declared.formula.Sym.TheVariants.{Fresh}
 use Rattle.ac_logic.specs.declared.formula.Formula.{Formula}
 use Rattle.ac_logic.specs.Absence.{IsAbsent}

@@ -14,7 +14,7 @@ number_of_parts g [] = pos 0
 number_of_parts g (p ∷ ps) = (p.factor *ℤ g p.unit) +ℤ number_of_parts g ps
 
 -- A linear form, which is at most 0, is a difference of two sides, which is at most its bound: the constant is minus the
--- bound, and the parts weigh what those of the first side do less those of the second. Side number k has the parts `sides k`.
+-- bound, and whatever numbers the units have, the parts sum to the first side less the second. Side k has the parts `sides k`.
 pub record IsDifference (sides : ℕ → List Part) (l : Linear) (d : Diff) : Type 0 where
   pub constant : l.constant ≡ neg_ℤ d.bound
   pub parts : (g : Term → ℤ) → number_of_parts g l.parts ≡ difference (λ k. number_of_parts g (sides k)) d

@@ -11,7 +11,6 @@ use Rattle.ac_proof.specs.RuleNames.{plain_rule}
 use Rattle.ac_proof.specs.Rules.{IsInstance, contexts}
 use Rattle.ac_steps.specs.declared.plan.Way.{Way}
 use Rattle.ac_steps.specs.declared.plan.Way.TheVariants.{Hypothesis, Plain, Instance, NewName, Combination, FromDenial, Between, ByOrder, ByEquality, Lemma}
-use Rattle.ac_steps.specs.Opened.{hidden, formula_shape, formula_child, term_shape, term_child}
 
 -- s is below t
 abbrev pub below : Term → Term → Formula

@@ -15,11 +15,7 @@ use ac_shared::Shared;
 use std::alloc::{AllocError, Global};
 
 /// What premise number i may suppose besides the hypotheses.
-pub fn context_of(
-    alloc: Global,
-    plan: &Plan,
-    i: usize,
-) -> Result<Vec<Shared<Formula>>, AllocError>
+pub fn context_of(alloc: Global, plan: &Plan, i: usize) -> Result<Vec<Shared<Formula>>, AllocError>
     ensures { IfOk result (λ more. more.items ≡ context_at plan.now i) }
 {
     match &plan.way {
@@ -159,11 +155,7 @@ fn side_of(
     }
 }
 
-fn side_in(
-    alloc: Global,
-    formula: &Formula,
-    i: usize,
-) -> Result<Vec<Shared<Formula>>, AllocError>
+fn side_in(alloc: Global, formula: &Formula, i: usize) -> Result<Vec<Shared<Formula>>, AllocError>
     ensures { IfOk result (λ more. more.items ≡ slice_index_or (sides (formula.now ∷ [])) i []) }
 {
     let Formula::Or(a, b) = formula else {
@@ -196,11 +188,7 @@ fn antecedent_of(
 }
 
 /// For `not-intro`: what the goal denies.
-fn denied_by(
-    alloc: Global,
-    goal: &Formula,
-    i: usize,
-) -> Result<Vec<Shared<Formula>>, AllocError>
+fn denied_by(alloc: Global, goal: &Formula, i: usize) -> Result<Vec<Shared<Formula>>, AllocError>
     ensures { IfOk result (λ more. more.items ≡ slice_index_or (denied goal.now) i []) }
 {
     let Formula::Not(a) = goal else {

@@ -19,10 +19,7 @@ use sqlite_items::Items;
 use std::alloc::{AllocError, Global};
 
 /// False from facts that contradict.
-pub fn contradiction(
-    alloc: Global,
-    facts: Items<Shared<Plan>>,
-) -> Result<Shared<Plan>, AllocError>
+pub fn contradiction(alloc: Global, facts: Items<Shared<Plan>>) -> Result<Shared<Plan>, AllocError>
     ensures shown { IfOk result (λ plan. shown_by plan ≡ Falsity) }
     ensures shows { IfOk result (λ plan. (hs : List AnyFormula) (sides : ℕ → List AnyPart) (ds : List AnyDiff) → AllShow hs [] facts → Say sides (map shown_by facts) ds → Contradict ds → length facts < 2 ^ 32 → Shows hs plan) }
 {

@@ -22,6 +22,9 @@ mod usage;
 
 pub use builder::tree_of;
 pub use facts::{comparison, comparison_of_contradiction, contradiction};
-pub use laws::{comparison_law, contradiction_law, more_hypotheses_law, needless_denial_law, reversal_law, unused_hypothesis_law};
+pub use laws::{
+    comparison_law, contradiction_law, more_hypotheses_law, needless_denial_law, reversal_law,
+    unused_hypothesis_law,
+};
 pub use plan::{Plan, Way};
 pub use usage::uses;

@@ -32,11 +32,7 @@ pub fn absurd(
 }
 
 /// A contradiction of a formula and its denial.
-pub fn clash(
-    alloc: Global,
-    denial: ProofTree,
-    shown: ProofTree,
-) -> Result<ProofTree, AllocError>
+pub fn clash(alloc: Global, denial: ProofTree, shown: ProofTree) -> Result<ProofTree, AllocError>
     ensures { IfOk result (IsClash denial shown) }
 {
     let premises = two(alloc, denial, shown)?;
@@ -59,11 +55,7 @@ pub fn cases(
 }
 
 /// `s <= t or t + 1 <= s`.
-pub fn order(
-    alloc: Global,
-    s: &Shared<Term>,
-    t: &Shared<Term>,
-) -> Result<ProofTree, AllocError>
+pub fn order(alloc: Global, s: &Shared<Term>, t: &Shared<Term>) -> Result<ProofTree, AllocError>
     ensures { IfOk result (IsSplit s.now t.now (in_order s.now t.now)) }
 {
     let goal = in_order(alloc, s, t)?;
@@ -71,11 +63,7 @@ pub fn order(
 }
 
 /// `s = t or { s + 1 <= t or t + 1 <= s }`.
-pub fn equality(
-    alloc: Global,
-    s: &Shared<Term>,
-    t: &Shared<Term>,
-) -> Result<ProofTree, AllocError>
+pub fn equality(alloc: Global, s: &Shared<Term>, t: &Shared<Term>) -> Result<ProofTree, AllocError>
     ensures { IfOk result (IsSplit s.now t.now (equal_or_apart s.now t.now)) }
 {
     let goal = equal_or_apart(alloc, s, t)?;

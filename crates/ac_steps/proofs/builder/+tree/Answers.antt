@@ -1,6 +1,5 @@
-use Rattle.std.proofs.Common.{◌≡◌, ◌∙◌, ap, subst, sym, rules, refl, length, ◌++◌, arith, Some, slice_get}
+use Rattle.std.proofs.Common.{◌≡◌, ◌∙◌, subst, sym, rules, length, ◌++◌, arith, Some, slice_get}
 use Rattle.std.proofs.Math.Seq.{take-append_seam}
-use Rattle.ac_logic.specs.declared.formula.Formula.{Formula}
 use Rattle.ac_steps.specs.declared.plan.Plan.{Plan, out-Plan}
 use Rattle.ac_steps.specs.Plans.{Shows, IsLastStep, shown_by, context_at, contexts_in, formulas_of}
 use Rattle.ac_steps.specs.Proofs.{IsProof, AreProofs, IsPremiseProof}
@@ -35,9 +34,10 @@ pub premise_tree-tree_of-requires : goal.premise_tree-tree_of-requires
 premise_tree-tree_of-requires t c =
     let x : Plan = c.get.result.now in
     let is = item_again x c.index-premises-i.result c.as_slice-premises.result.now c.args.i c.get.ensures c.index-premises-i.is in
-    let s : slice_get (out-Plan c.args.plan.now).premises c.args.i ≡ Some x = plan_at (out-Plan c.args.plan.now).premises c.as_slice-premises.result.now c.args.i x c.as_slice-premises.ensures c.requires.place is in
-    (less_deep c.args.plan.now x c.as_slice-premises.result.now c.args.i t is c.as_slice-premises.ensures c.requires.place c.decreases,
-    subst (λ hs. Shows hs x) (sym c.in_ok-push_context.ensures) (premise_shows c.args.hyps.now.items c.args.plan.now c.args.i x c.requires.shows s))
+    let s : slice_get (out-Plan c.args.plan.now).premises c.args.i ≡ Some x = plan_at (out-Plan c.args.plan.now).premises c.as_slice-premises.result.now c.args.i x c.as_slice-premises.ensures c.requires.place is in (
+      less_deep c.args.plan.now x c.as_slice-premises.result.now c.args.i t is c.as_slice-premises.ensures c.requires.place c.decreases,
+      subst (λ hs. Shows hs x) (sym c.in_ok-push_context.ensures) (premise_shows c.args.hyps.now.items c.args.plan.now c.args.i x c.requires.shows s),
+    )
 
 pub premise_tree-returns : goal.premise_tree-returns
 premise_tree-returns t c =

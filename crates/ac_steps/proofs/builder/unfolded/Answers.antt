@@ -1,10 +1,6 @@
-use Rattle.std.proofs.Common.{◌≡◌, refl, length, [], ◌∷◌}
+use Rattle.std.proofs.Common.{refl, length}
 use Rattle.std.proofs.lemmas.Result.{IfOk-weaker}
-use Rattle.ac_logic.specs.declared.formula.Formula.{False, Le, Eq}
-use Rattle.ac_logic.specs.declared.formula.Formula.TheVariants.{Not}
-use Rattle.ac_steps.specs.declared.plan.Way.TheVariants.{Hypothesis, FromDenial, Between, ByOrder, ByEquality, Lemma}
 use Rattle.ac_steps.specs.declared.plan.Plan.{out-Plan}
-use Rattle.ac_steps.specs.Ways.{below}
 use Rattle.ac_steps.specs.Plans.{contexts_in, formulas_of}
 use Rattle.ac_steps.proofs.Unfolded.{own_step, given, count_of, no_other}
 use Rattle.ac_steps.proofs.builder.unfolded.Goals as goal

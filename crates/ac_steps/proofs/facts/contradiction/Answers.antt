@@ -1,4 +1,4 @@
-use Rattle.std.proofs.Common.{ap, ◌∙◌, ◌∷◌}
+use Rattle.std.proofs.Common.{ap, ◌∙◌}
 use Rattle.ac_steps.specs.FactDifferences.{once}
 use Rattle.ac_steps.proofs.Planned.{contradiction_shows}
 use Rattle.ac_steps.proofs.facts.contradiction.Goals as goal

@@ -1,4 +1,4 @@
-use Rattle.std.proofs.Common.{◌≡◌, take, map}
+use Rattle.std.proofs.Common.{◌≡◌, take}
 use Rattle.ac_steps.specs.FactDifferences.{once}
 use Rattle.ac_steps.proofs.facts.once_each.Given as goal
 

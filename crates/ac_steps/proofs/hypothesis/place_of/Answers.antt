@@ -1,4 +1,4 @@
-use Rattle.std.proofs.Common.{◌≡◌, ◌∙◌, sym, arith, true, ◌<◌}
+use Rattle.std.proofs.Common.{◌≡◌, ◌∙◌, arith, true}
 use Rattle.ac_steps.proofs.Firsts.{not_more}
 use Rattle.ac_steps.proofs.hypothesis.place_of.Goals as goal
 
