@@ -1,0 +1,14 @@
+pub mod Readable
+pub mod Made
+pub mod RuleSteps
+pub mod Built
+pub mod Rows
+pub mod Weights
+pub mod FormWeights
+pub mod Widths
+pub mod Contradictions
+pub mod Wider
+pub mod Planned
+pub mod Unfolded
+pub mod UsedRows
+pub mod Firsts

@@ -1,0 +1,5 @@
+use Rattle.ac_steps.proofs.RuleSteps.{equality, made_as}
+use Rattle.ac_steps.proofs.rules.equality.Goals as goal
+
+pub returns : goal.returns
+returns c = equality c.args.s.now c.args.t.now c.step.result (made_as c.step.result _ _ _ _ _ c.in_ok-goal.ensures c.new.ensures c.step.ensures)
