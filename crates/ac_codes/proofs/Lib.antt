@@ -1,0 +1,2 @@
+pub mod OneMatch
+pub mod Listing

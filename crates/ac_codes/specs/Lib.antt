@@ -1,0 +1,10 @@
+pub mod Opened
+pub mod Patterns
+pub mod Sameness
+pub mod Values
+pub mod Filling
+pub mod Pieces
+pub mod Metavariables
+pub mod SideConditions
+pub mod Matching
+pub mod Listed
