@@ -1,0 +1,16 @@
+pub mod GoalLists
+pub mod Closed
+pub mod Blocks
+pub mod Implied
+pub mod Findings
+pub mod Walks
+pub mod Cuts
+pub mod Sides
+pub mod Outside
+pub mod Taken
+pub mod Ordered
+pub mod Reaching
+pub mod Limited
+pub mod Measured
+pub mod OneTarget
+pub mod Barred
