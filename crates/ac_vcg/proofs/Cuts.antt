@@ -23,7 +23,8 @@ use Rattle.ac_conditions.specs.Part.{Part}
 use Rattle.ac_conditions.specs.Preconditions.{past_barrier, before, before_list, for_keep, while_keep, variable}
 use Rattle.ac_conditions.specs.Tests.{formula_of}
 use Rattle.ac_vcg.specs.declared.found.Found.{Found}
-use Rattle.ac_vcg.specs.Stands.{StandsIf, AreFound}
+use Rattle.ac_preconditions.specs.Stands.{StandsIf}
+use Rattle.ac_vcg.specs.Stands.{AreFound}
 use Rattle.ac_vcg.proofs.Walks.{conditions_if, conditions_for, conditions_while}
 
 -- what is so of a statement by its parts is so of the statement

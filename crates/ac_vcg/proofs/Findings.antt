@@ -12,8 +12,9 @@ use Rattle.ac_conditions.specs.Conditions.{implied_by, condition, barrier_condit
 use Rattle.ac_conditions.specs.Hypotheses.{assumed}
 use Rattle.ac_conditions.specs.Part.{Part}
 use Rattle.ac_vcg.specs.declared.found.Found.{Found}
-use Rattle.ac_vcg.specs.Facts.{has_facts}
-use Rattle.ac_vcg.specs.Stands.{StandsIf, IsFor, AreFound, IsFoundIf, condition_from}
+use Rattle.ac_preconditions.specs.Facts.{has_facts}
+use Rattle.ac_preconditions.specs.Stands.{StandsIf}
+use Rattle.ac_vcg.specs.Stands.{IsFor, AreFound, IsFoundIf, condition_from}
 
 module _ {G : Type 0} (stands : G → Formula → Type 0) (name : PolicyName) where
   -- the same conditions, put together in another way

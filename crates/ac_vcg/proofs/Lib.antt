@@ -1,11 +1,8 @@
-pub mod GoalLists
-pub mod Closed
 pub mod Blocks
 pub mod Implied
 pub mod Findings
 pub mod Walks
 pub mod Cuts
-pub mod Sides
 pub mod Outside
 pub mod Taken
 pub mod Ordered

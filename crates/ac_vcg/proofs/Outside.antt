@@ -29,8 +29,9 @@ use Rattle.ac_conditions.proofs.PairsInOrder.{targets_at}
 use Rattle.ac_conditions.proofs.Sublists.{IsSublist}
 use Rattle.ac_conditions.proofs.TargetsCover.{is_same, Apart, apart_barrier, none_past, before_none, none_aims_in, no_barrier_condition}
 use Rattle.ac_vcg.specs.declared.found.Found.{Found}
-use Rattle.ac_vcg.specs.Outside.{Rises, node_of, IsAtNone, first_node, is_from, is_outside}
-use Rattle.ac_vcg.specs.Stands.{StandsIf, AreFound}
+use Rattle.ac_preconditions.specs.Outside.{Rises, node_of, IsAtNone, first_node, is_from, is_outside}
+use Rattle.ac_preconditions.specs.Stands.{StandsIf}
+use Rattle.ac_vcg.specs.Stands.{AreFound}
 
 -- rising numbers
 

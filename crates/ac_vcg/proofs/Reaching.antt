@@ -37,7 +37,7 @@ use Rattle.ac_conditions.specs.Part.{Part, part_of, places_of}
 use Rattle.ac_conditions.specs.Targets.{list_targets}
 use Rattle.ac_vcg.specs.declared.plan.Plan.{Plan}
 use Rattle.ac_vcg.specs.Numbered.{IsInOrder}
-use Rattle.ac_vcg.specs.Outside.{node_of}
+use Rattle.ac_preconditions.specs.Outside.{node_of}
 use Rattle.ac_vcg.specs.Plan.{AllAt, AreReached, IsKept, IsPlan}
 use Rattle.ac_vcg.proofs.Ordered.{numbers_of}
 use Rattle.ac_vcg.proofs.Taken.{each_at}

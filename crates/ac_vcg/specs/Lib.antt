@@ -1,10 +1,6 @@
 pub mod Opened
 pub mod Stands
-pub mod Onto
-pub mod Facts
 pub mod Refusals
 pub mod Numbered
 pub mod Ground
 pub mod Plan
-pub mod Outside
-pub mod Aimed

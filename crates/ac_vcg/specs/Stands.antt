@@ -1,4 +1,4 @@
--- Whether what was made along a path stands for a formula, where there is one.
+-- Whether what was found of conditions stands for them.
 use Rattle.std.specs.Prelude.{◌≡◌, List, [], ◌∷◌, ◌++◌, Option, Some, None}
 use Rattle.ac_tree.specs.declared.path.Cut.{Cut}
 use Rattle.ac_tree.specs.declared.path.Target.{Target}
@@ -6,13 +6,6 @@ use Rattle.ac_tree.specs.declared.policy.PolicyName.{PolicyName}
 use Rattle.ac_logic.specs.declared.condition.Condition.{Condition}
 use Rattle.ac_logic.specs.declared.formula.Formula.{Formula}
 use Rattle.ac_vcg.specs.declared.found.Found.{Found}
-
--- both are there, and one stands for the other, or there is neither
-abbrev pub StandsIf : {G : Type 0} → (G → Formula → Type 0) → Option G → Option Formula → Type 0
-StandsIf stands None None = Unit {0}
-StandsIf stands None (Some f) = ⊥
-StandsIf stands (Some g) None = ⊥
-StandsIf stands (Some g) (Some f) = stands g f
 
 -- what was found of a condition: its pair, and what stands for its formula
 abbrev pub IsFor : {G : Type 0} → (G → Formula → Type 0) → PolicyName → Found G → Condition → Type 0

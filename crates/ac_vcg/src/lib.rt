@@ -1,23 +1,15 @@
 //! The list of the verification conditions of a program.
 #![tactic(auto, unfolding(crate::specs::Opened::formula_shape, crate::specs::Opened::formula_child, crate::specs::Opened::term_shape, crate::specs::Opened::term_child, crate::specs::Opened::array_shape, crate::specs::Opened::array_child, crate::specs::Opened::expr_shape, crate::specs::Opened::expr_child, crate::specs::Opened::cond_shape, crate::specs::Opened::cond_child, crate::specs::Opened::stmt_shape, crate::specs::Opened::stmt_child, crate::specs::Opened::hidden))]
 
-mod aim;
-mod before;
-mod changes;
 mod condition_list;
-mod facts;
 mod fault;
 mod found;
-mod goals;
-mod hypotheses;
-mod joins;
 mod limits;
 mod numbered;
 mod one_target;
 mod plan;
 mod ranges;
 mod targets;
-mod test_formulas;
 mod walk;
 
 pub use condition_list::conditions;

@@ -6,11 +6,11 @@ ghost use Rattle.ac_conditions.specs.Part.{part_of};
 ghost use Rattle.ac_vcg.specs.Ground.{IsGround};
 ghost use Rattle.ac_vcg.specs.Stands.{AreFound};
 
-use crate::aim::Aim;
 use crate::found::Found;
 use crate::walk::{add_condition, walk_block};
 use ac_logic::{Annotation, Formula};
 use ac_policy::Policy;
+use ac_preconditions::aim::Aim;
 use ac_profile::Precondition;
 use ac_shared::Shared;
 use ac_tree::{Cut, Pair, Program, Target};

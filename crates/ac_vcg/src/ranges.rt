@@ -4,9 +4,9 @@ ghost use Rattle.ac_logic.specs.declared.formula.Sym.TheVariants as symbol;
 ghost use Rattle.ac_policy.specs.Extents.{extent_term as term_of_extent, terms_of_extents, cell_term as term_of_cell, row_index, column_index};
 ghost use Rattle.ac_conditions.specs.Ranges.{cells_between as cells_lie_between, item_ranges, labelled_ranges, ranges as all_ranges};
 
-use crate::joins::labelled;
 use ac_logic::{ArrayTerm, Formula, LabelKind, Sym, Term};
 use ac_policy::{ExtentTerms, for_all_cells, literal_term, scalar_term};
+use ac_preconditions::joins::labelled;
 use ac_shared::Shared;
 use ac_tree::{Extent, Extents, Item, ItemKind, Name, Program};
 use std::alloc::{AllocError, Global};

@@ -4,7 +4,7 @@ ghost use Rattle.ac_logic.specs.declared.formula.Term.{Term as AnyTerm};
 ghost use Rattle.ac_policy.specs.Sites.{read_sites, expr_sites, index_sites, cond_sites};
 ghost use Rattle.ac_conditions.specs.Targets.{site_targets, stmt_targets, list_targets};
 
-use crate::goals::constant;
+use ac_preconditions::goals::constant;
 use ac_tree::{
     Cond, CondKind, Expr, ExprKind, Index, Name, NodeId, Program, Stmt, StmtKind, Target,
 };

@@ -14,24 +14,25 @@ ghost use Rattle.ac_conditions.specs.Hypotheses.{in_body as inside, at_for_test 
 ghost use Rattle.ac_conditions.specs.Part.{Part as AnyPart, facts_at, is_after};
 ghost use Rattle.ac_conditions.specs.Preconditions.{past_barrier as behind_barrier, before, before_list};
 ghost use Rattle.ac_conditions.specs.Tests.{formula_of as test_formula};
-ghost use Rattle.ac_vcg.specs.Aimed.{part_at};
-ghost use Rattle.ac_vcg.specs.Outside.{Rises, IsAtNone};
-ghost use Rattle.ac_vcg.specs.Stands.{StandsIf, IsFor, AreFound, IsFoundIf, condition_from};
+ghost use Rattle.ac_preconditions.specs.Aimed.{part_at};
+ghost use Rattle.ac_preconditions.specs.Outside.{Rises, IsAtNone};
+ghost use Rattle.ac_preconditions.specs.Stands.{StandsIf};
+ghost use Rattle.ac_vcg.specs.Stands.{IsFor, AreFound, IsFoundIf, condition_from};
 
-use crate::aim::{Aim, is_passed};
-use crate::before::{
+use crate::found::Found;
+use ac_logic::Formula;
+use ac_policy::Policy;
+use ac_preconditions::aim::{Aim, is_passed};
+use ac_preconditions::before::{
     again, before_for, before_put, before_set, before_use, for_keep, past_barrier, where_at_most,
     where_it_fails, where_it_holds, while_entry, while_keep,
 };
-use crate::facts::has_barrier;
-use crate::found::Found;
-use crate::goals::cond_goal;
-use crate::hypotheses::{
+use ac_preconditions::facts::has_barrier;
+use ac_preconditions::goals::cond_goal;
+use ac_preconditions::hypotheses::{
     add_invariants, assumed, at_for_exit, at_for_test, at_while_exit, in_body,
 };
-use crate::joins::conjoined;
-use ac_logic::Formula;
-use ac_policy::Policy;
+use ac_preconditions::joins::conjoined;
 use ac_profile::Precondition;
 use ac_shared::Shared;
 use ac_tree::{Cond, Cut, Expr, Name, NodeId, Pair, Program, Stmt, StmtKind};

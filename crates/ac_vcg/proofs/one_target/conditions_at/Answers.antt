@@ -2,7 +2,7 @@ use Rattle.std.proofs.Common.{◌≡◌, List, [], None, sym, subst, ◌∙◌}
 use Rattle.ac_tree.specs.declared.program.Stmt.{Stmt}
 use Rattle.ac_tree.specs.Preorder.{nodes_of_list}
 use Rattle.ac_conditions.specs.Part.{part_of}
-use Rattle.ac_vcg.specs.Outside.{Rises}
+use Rattle.ac_preconditions.specs.Outside.{Rises}
 use Rattle.ac_vcg.proofs.Findings.{found_as}
 use Rattle.ac_vcg.proofs.OneTarget.{whole_target}
 use Rattle.ac_vcg.proofs.Ordered.{body_rises}

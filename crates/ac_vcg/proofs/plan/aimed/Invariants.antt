@@ -1,5 +1,5 @@
 use Rattle.std.proofs.Common.{◌≡◌, ◌++◌, map, drop}
-use Rattle.ac_vcg.specs.Outside.{node_of}
+use Rattle.ac_preconditions.specs.Outside.{node_of}
 use Rattle.ac_vcg.proofs.plan.aimed.Given as goal
 
 abbrev pub invariant-loop-pair : goal.invariant-loop-pair

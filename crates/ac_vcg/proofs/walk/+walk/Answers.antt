@@ -3,7 +3,8 @@ use Rattle.std.proofs.lemmas.Result.{IfOk-weaker, on_ok_weaker}
 use Rattle.ac_conditions.specs.Conditions.{conditions, list_conditions}
 use Rattle.ac_conditions.specs.Part.{part_of}
 use Rattle.ac_conditions.specs.Preconditions.{before}
-use Rattle.ac_vcg.specs.Stands.{StandsIf, AreFound}
+use Rattle.ac_preconditions.specs.Stands.{StandsIf}
+use Rattle.ac_vcg.specs.Stands.{AreFound}
 use Rattle.ac_vcg.proofs.Cuts.{as_if, as_for, as_while, found_if, found_for, found_while, walked_none, walked_more, walked_all}
 use Rattle.ac_vcg.proofs.Findings.{found_as}
 use Rattle.ac_vcg.proofs.Outside.{passed_over, rises_if, rises_for, rises_while, none_first, first_at, rises_inside, none_passed}

@@ -6,8 +6,9 @@ use Rattle.ac_logic.specs.declared.formula.Formula.{Formula}
 use Rattle.ac_conditions.specs.Conditions.{list_conditions}
 use Rattle.ac_conditions.specs.Part.{part_of}
 use Rattle.ac_conditions.specs.Preconditions.{before_list}
-use Rattle.ac_vcg.specs.Outside.{Rises, first_node}
-use Rattle.ac_vcg.specs.Stands.{StandsIf, AreFound}
+use Rattle.ac_preconditions.specs.Outside.{Rises, first_node}
+use Rattle.ac_preconditions.specs.Stands.{StandsIf}
+use Rattle.ac_vcg.specs.Stands.{AreFound}
 use Rattle.ac_vcg.proofs.walk.+walk.Given as goal
 
 abbrev pub decreases-walk_block-loop-left : goal.decreases-walk_block-loop-left
