@@ -7,13 +7,14 @@ use ac_logic::Annotation;
 use ac_policy::Policy;
 use ac_tree::{NodeId, Program, Target};
 
-/// The target of the paths in a program, the policy, the facts that annotations state at places, and whether the nodes are
-/// known to be in order.
+/// The target of the paths in a program, the policy, the facts that annotations state at places, a mark for each statement that
+/// has facts behind it, and whether the nodes are known to be in order.
 #[derive(Drop)]
 pub struct Aim<'a, P> {
     pub program: &'a Program,
     pub policy: &'a P,
     pub annotations: &'a [Annotation],
+    pub barriers: &'a [bool],
     pub target: Target,
     pub is_ordered: bool,
 }

@@ -10,11 +10,13 @@ ghost use Rattle.ac_conditions.specs.Part.{facts_at, is_loop, is_after};
 ghost use Rattle.ac_conditions.specs.Preconditions.{joined as joined_facts, past_barrier as behind_barrier, scalar_changes, element_changes, before_changes as changes_before, set_goal as goal_of_set, put_goal as goal_of_put, ends_goal as goal_of_ends, while_entry as entry_of_while, while_keep as keep_of_while, for_entry as entry_of_for, for_keep as keep_of_for, before, variable as variable_term};
 ghost use Rattle.ac_conditions.specs.Tests.{labelled as labelled_formula, formula_of as test_formula};
 ghost use Rattle.ac_preconditions.specs.Aimed.{part_at};
+ghost use Rattle.ac_preconditions.specs.Barriers.{AreMarked};
 ghost use Rattle.ac_preconditions.specs.Stands.{StandsIf};
 
 use crate::aim::{Aim, is_barrier, is_entry, is_keep, is_site};
+use crate::barriers::has_barrier;
 use crate::changes::{before_changes, put_changes, set_changes, turn_changes};
-use crate::facts::{facts_behind, has_barrier, joined, loop_facts};
+use crate::facts::{facts_behind, joined, loop_facts};
 use crate::goals::{cond_goal, element_goal, expr_goals, index_goals, scalar_goal, two_goals};
 use crate::joins::{conjoined, under};
 use crate::test_formulas::{formula_of, negation, variable};
@@ -132,9 +134,10 @@ pub fn past_barrier<P: Policy, G: Precondition>(
     node: NodeId,
     behind: Option<G>,
 ) -> Result<Option<G>, AllocError>
+    requires { AreMarked aim.now.annotations.now aim.now.barriers.now }
     ensures { IfOk result (λ made. (Q : Option AnyFormula) → StandsIf G.stands behind Q → StandsIf G.stands made (behind_barrier aim.now.target node (facts_at (is_after node) aim.now.annotations.now) Q)) }
 {
-    if !has_barrier(aim.annotations, node) {
+    if !has_barrier(aim, node) {
         return Ok(behind);
     }
     if !is_barrier(aim.target, node) {

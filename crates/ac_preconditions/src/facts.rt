@@ -2,7 +2,6 @@
 ghost use Rattle.std.specs.Prelude.{◌≡◌, IfOk, Bool, true, false, List, []};
 ghost use Rattle.ac_conditions.specs.Part.{is_loop, is_after, facts_at};
 ghost use Rattle.ac_conditions.specs.Preconditions.{joined as joined_facts, joined_onto};
-ghost use Rattle.ac_preconditions.specs.Facts.{has_facts};
 
 use ac_logic::{Annotation, Formula};
 use ac_shared::Shared;
@@ -59,18 +58,6 @@ pub fn facts_behind(
         }
     }
     Ok(facts)
-}
-
-/// Whether a statement has facts behind it, so that a barrier stands there.
-pub fn has_barrier(annotations: &[Annotation], node: NodeId) -> bool
-    ensures { result ≡ has_facts (facts_at (is_after node) annotations.now) }
-{
-    for annotation in annotations {
-        if is_behind(annotation.place, node) {
-            return true;
-        }
-    }
-    false
 }
 
 /// Facts joined by `and` to the left, or `true`.

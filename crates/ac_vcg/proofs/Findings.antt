@@ -10,9 +10,8 @@ use Rattle.ac_logic.specs.declared.condition.Condition.{Condition}
 use Rattle.ac_logic.specs.declared.formula.Formula.{Formula}
 use Rattle.ac_conditions.specs.Conditions.{implied_by, condition, barrier_condition}
 use Rattle.ac_conditions.specs.Hypotheses.{assumed}
-use Rattle.ac_conditions.specs.Part.{Part}
+use Rattle.ac_conditions.specs.Part.{Part, is_any}
 use Rattle.ac_vcg.specs.declared.found.Found.{Found}
-use Rattle.ac_preconditions.specs.Facts.{has_facts}
 use Rattle.ac_preconditions.specs.Stands.{StandsIf}
 use Rattle.ac_vcg.specs.Stands.{IsFor, AreFound, IsFoundIf, condition_from}
 
@@ -51,7 +50,7 @@ module _ {G : Type 0} (stands : G → Formula → Type 0) (name : PolicyName) wh
         one (Some f) h = (xs, x, l, k f h, m)
 
     -- the barrier behind a statement
-    pub barrier_none : (n : NodeId) (hs fs : List Formula) (Q : Option Formula) → has_facts fs ≡ false → IsFoundIf stands name None (barrier_condition p name part t n hs fs Q)
+    pub barrier_none : (n : NodeId) (hs fs : List Formula) (Q : Option Formula) → is_any fs ≡ false → IsFoundIf stands name None (barrier_condition p name part t n hs fs Q)
     barrier_none n hs [] Q e = tt
     barrier_none n hs (f ∷ fs) Q e = cc
 
@@ -61,7 +60,7 @@ module _ {G : Type 0} (stands : G → Formula → Type 0) (name : PolicyName) wh
     barrier_unreached n hs (f ∷ fs) None (Some g) e h = absurd h
     barrier_unreached n hs (f ∷ fs) (Some g) Q e h = cc
 
-    pub barrier_found : (n : NodeId) (hs fs : List Formula) (x : Found G) (g : G) (behind : Option G) (Q : Option Formula) → has_facts fs ≡ true → behind ≡ Some g → StandsIf stands behind Q →
+    pub barrier_found : (n : NodeId) (hs fs : List Formula) (x : Found G) (g : G) (behind : Option G) (Q : Option Formula) → is_any fs ≡ true → behind ≡ Some g → StandsIf stands behind Q →
         ((f : Formula) → stands g f → IsFor stands name x (condition_from name (After n) t (implied_by (hs ++ assumed n fs) f))) → IsFoundIf stands name (Some x) (barrier_condition p name part t n hs fs Q)
     barrier_found n hs [] x g behind Q b e h k = cc
     barrier_found n hs (f ∷ fs) x g behind Q b e h k = one Q (subst (λ o. StandsIf stands o Q) e h)

@@ -1,5 +1,6 @@
 -- Nodes that are numbered one after the other.
-use Rattle.std.proofs.Common.{◌≡◌, ℕ, zero, suc, ◌+◌, ◌≤◌, List, [], ◌∷◌, ◌++◌, length, drop, Option, Some, None, IfSome, refl, sym, ◌∙◌, ap, subst, arith}
+use Rattle.std.proofs.Common.{◌≡◌, ℕ, zero, suc, ◌+◌, ◌≤◌, List, [], ◌∷◌, ◌++◌, length, get_or, drop, ◌<◌, Option, Some, None, IfSome, refl, sym, ◌∙◌, ap, subst, arith}
+use Rattle.std.proofs.lemmas.List.{drop_more}
 use Rattle.ac_tree.specs.declared.node.NodeId.{NodeId}
 use Rattle.ac_tree.specs.declared.program.Cond.{Cond}
 use Rattle.ac_tree.specs.declared.program.Expr.{Expr}
@@ -92,6 +93,10 @@ two_conds a b d ns x y u v e f g h k =
 
 pub index_and_expr : (a b d : ℕ) (ns : List NodeId) (index : Index) (v : Expr) → ns ≡ inside_index index ++ whole_expr v → AreNumbered a (inside_index index) b → AreNumbered b (whole_expr v) d → AreNumbered a ns d
 index_and_expr a b d ns index v e h k = subst (λ (l : List NodeId). AreNumbered a l d) (sym e) (numbered_both a b d (inside_index index) (whole_expr v) h k)
+
+-- the next of a list, by what was read of it
+pub drop_next : {X : Type 0} (xs : List X) (i : ℕ) (x : X) → i < length xs → x ≡ get_or xs i x → drop i xs ≡ x ∷ drop (i + 1) xs
+drop_next {X = X} xs i x low read = drop_more xs i x low ∙ ap (λ (y : X). y ∷ drop (i + 1) xs) (sym read)
 
 -- the next statement of a block
 pub block_next : (block : List Stmt) (i a b end : ℕ) (st : Stmt) → drop i block ≡ st ∷ drop (i + 1) block → AreNumbered a (st.node.id ∷ inside_stmt st.kind) b → AreNumbered b (nodes_of_list (drop (i + 1) block)) end → AreNumbered a (nodes_of_list (drop i block)) end

@@ -11,6 +11,7 @@ use crate::walk::{add_condition, walk_block};
 use ac_logic::{Annotation, Formula};
 use ac_policy::Policy;
 use ac_preconditions::aim::Aim;
+use ac_preconditions::barriers::mark_barriers;
 use ac_profile::Precondition;
 use ac_shared::Shared;
 use ac_tree::{Cut, Pair, Program, Target};
@@ -35,10 +36,13 @@ pub fn conditions_at<P: Policy, G: Precondition>(
     requires { IsGround program.now ground.now }
     ensures { IfOk result (λ found. (name : AnyName) → AreFound G.stands name found.items (conditions_of program.now name (part_of (P.need_of policy.now program.now) (P.effect_of policy.now program.now) (P.known_of policy.now) annotations.now) target.now)) }
 {
+    let marks = mark_barriers(alloc, annotations)?;
+    let barriers = marks.as_slice();
     let aim = Aim {
         program,
         policy,
         annotations,
+        barriers,
         target: *target,
         is_ordered: ground.is_ordered,
     };

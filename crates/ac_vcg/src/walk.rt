@@ -15,6 +15,7 @@ ghost use Rattle.ac_conditions.specs.Part.{Part as AnyPart, facts_at, is_after};
 ghost use Rattle.ac_conditions.specs.Preconditions.{past_barrier as behind_barrier, before, before_list};
 ghost use Rattle.ac_conditions.specs.Tests.{formula_of as test_formula};
 ghost use Rattle.ac_preconditions.specs.Aimed.{part_at};
+ghost use Rattle.ac_preconditions.specs.Barriers.{AreMarked};
 ghost use Rattle.ac_preconditions.specs.Outside.{Rises, IsAtNone};
 ghost use Rattle.ac_preconditions.specs.Stands.{StandsIf};
 ghost use Rattle.ac_vcg.specs.Stands.{IsFor, AreFound, IsFoundIf, condition_from};
@@ -23,11 +24,11 @@ use crate::found::Found;
 use ac_logic::Formula;
 use ac_policy::Policy;
 use ac_preconditions::aim::{Aim, is_passed};
+use ac_preconditions::barriers::has_barrier;
 use ac_preconditions::before::{
     again, before_for, before_put, before_set, before_use, for_keep, past_barrier, where_at_most,
     where_it_fails, where_it_holds, while_entry, while_keep,
 };
-use ac_preconditions::facts::has_barrier;
 use ac_preconditions::goals::cond_goal;
 use ac_preconditions::hypotheses::{
     add_invariants, assumed, at_for_exit, at_for_test, at_while_exit, in_body,
@@ -100,9 +101,10 @@ fn barrier_of<P: Policy, G: Precondition>(
     hypotheses: &[Shared<Formula>],
     behind: &Option<G>,
 ) -> Result<Option<Found<G>>, AllocError>
+    requires { AreMarked aim.now.annotations.now aim.now.barriers.now }
     ensures { IfOk result (λ made. (p : AnyProgram) (part : AnyPart) (name : AnyName) (Q : Option AnyFormula) → StandsIf G.stands behind.now Q → IsFoundIf G.stands name made (barrier_condition p name part aim.now.target node hypotheses.now (facts_at (is_after node) aim.now.annotations.now) Q)) }
 {
-    if !has_barrier(aim.annotations, node) {
+    if !has_barrier(aim, node) {
         return Ok(None);
     }
     match behind {
@@ -266,6 +268,7 @@ fn walk_for<P: Policy, G: Precondition>(
     barrier: Option<Found<G>>,
     found: &mut Vec<Found<G>>,
 ) -> Result<(), AllocError>
+    requires { AreMarked aim.now.annotations.now aim.now.barriers.now }
     ensures { OnOk result ((title : AnyName) (Q : Option AnyFormula) (bs cs : List AnyCondition) → (aim.now.is_ordered ≡ true → Rises 0 (nodes_of_list body.now)) → StandsIf G.stands behind Q → IsFoundIf G.stands title barrier bs → AreFound G.stands title found.old.items cs → AreFound G.stands title found.new.items (conditions aim.now.program.now title (part_at P.need_of P.effect_of P.known_of aim.now) aim.now.target hypotheses.now node (AnyStmt.For name.now lo.now hi.now body.now) Q bs ++ cs)) }
 {
     let inner = hypotheses_inside(alloc, lo, hi, aim, node, name, hypotheses)?;
@@ -290,6 +293,7 @@ fn walk_while<P: Policy, G: Precondition>(
     barrier: Option<Found<G>>,
     found: &mut Vec<Found<G>>,
 ) -> Result<(), AllocError>
+    requires { AreMarked aim.now.annotations.now aim.now.barriers.now }
     ensures { OnOk result ((name : AnyName) (Q : Option AnyFormula) (bs cs : List AnyCondition) → (aim.now.is_ordered ≡ true → Rises 0 (nodes_of_list body.now)) → StandsIf G.stands behind Q → IsFoundIf G.stands name barrier bs → AreFound G.stands name found.old.items cs → AreFound G.stands name found.new.items (conditions aim.now.program.now name (part_at P.need_of P.effect_of P.known_of aim.now) aim.now.target hypotheses.now node (AnyStmt.While test.now body.now) Q bs ++ cs)) }
 {
     let kept = while_keep(alloc, aim, node)?;
@@ -315,6 +319,7 @@ fn walk_if<P: Policy, G: Precondition>(
     denied: Option<G>,
     found: &mut Vec<Found<G>>,
 ) -> Result<Option<G>, AllocError>
+    requires { AreMarked aim.now.annotations.now aim.now.barriers.now }
     ensures { IfOk result (λ made. (name : AnyName) (Q R : Option AnyFormula) (cs : List AnyCondition) → (aim.now.is_ordered ≡ true → Rises 0 (nodes_of_list yes.now)) → StandsIf G.stands behind Q → StandsIf G.stands denied R → AreFound G.stands name found.old.items cs → StandsIf G.stands made (conjoined_formula (goal_of_test (P.need_of aim.now.policy.now aim.now.program.now) aim.now.target aim.now.program.now test.now.kind) (conjoined_formula (under_label any_label.Test node (test_formula aim.now.program.now test.now.kind) (before_list aim.now.program.now (part_at P.need_of P.effect_of P.known_of aim.now) aim.now.target yes.now Q)) (under_label any_label.Denied node (Negation (test_formula aim.now.program.now test.now.kind)) R))) × AreFound G.stands name found.new.items (list_conditions aim.now.program.now name (part_at P.need_of P.effect_of P.known_of aim.now) aim.now.target hypotheses.now yes.now Q ++ cs)) }
 {
     let taken = walk_block(alloc, yes, aim, hypotheses, behind, found)?;
@@ -336,6 +341,7 @@ fn walk_stmt<P: Policy, G: Precondition>(
     barrier: Option<Found<G>>,
     found: &mut Vec<Found<G>>,
 ) -> Result<Option<G>, AllocError>
+    requires { AreMarked aim.now.annotations.now aim.now.barriers.now }
     ensures { IfOk result (λ made. (name : AnyName) (Q : Option AnyFormula) (bs cs : List AnyCondition) → (aim.now.is_ordered ≡ true → Rises 0 (inside_stmt stmt.now.kind)) → StandsIf G.stands behind Q → IsFoundIf G.stands name barrier bs → AreFound G.stands name found.old.items cs → StandsIf G.stands made (before aim.now.program.now (part_at P.need_of P.effect_of P.known_of aim.now) aim.now.target stmt.now.node.id stmt.now.kind Q) × AreFound G.stands name found.new.items (conditions aim.now.program.now name (part_at P.need_of P.effect_of P.known_of aim.now) aim.now.target hypotheses.now stmt.now.node.id stmt.now.kind Q bs ++ cs)) }
 {
     let node = stmt.node.id;
@@ -396,6 +402,7 @@ fn walk_next<P: Policy, G: Precondition>(
     behind: Option<G>,
     found: &mut Vec<Found<G>>,
 ) -> Result<Option<G>, AllocError>
+    requires { AreMarked aim.now.annotations.now aim.now.barriers.now }
     ensures { IfOk result (λ made. (name : AnyName) (Q : Option AnyFormula) (cs : List AnyCondition) → (aim.now.is_ordered ≡ true → Rises 0 (inside_stmt stmt.now.kind)) → (passed ≡ true → IsAtNone aim.now.target (stmt.now.node.id ∷ inside_stmt stmt.now.kind)) → StandsIf G.stands behind Q → AreFound G.stands name found.old.items cs → StandsIf G.stands made (before aim.now.program.now (part_at P.need_of P.effect_of P.known_of aim.now) aim.now.target stmt.now.node.id stmt.now.kind (behind_barrier aim.now.target stmt.now.node.id (facts_at (is_after stmt.now.node.id) aim.now.annotations.now) Q)) × AreFound G.stands name found.new.items (conditions aim.now.program.now name (part_at P.need_of P.effect_of P.known_of aim.now) aim.now.target hypotheses.now stmt.now.node.id stmt.now.kind (behind_barrier aim.now.target stmt.now.node.id (facts_at (is_after stmt.now.node.id) aim.now.annotations.now) Q) (barrier_condition aim.now.program.now name (part_at P.need_of P.effect_of P.known_of aim.now) aim.now.target stmt.now.node.id hypotheses.now (facts_at (is_after stmt.now.node.id) aim.now.annotations.now) Q) ++ cs)) }
 {
     if passed && behind.is_none() {
@@ -416,6 +423,7 @@ pub fn walk_block<P: Policy, G: Precondition>(
     behind: Option<G>,
     found: &mut Vec<Found<G>>,
 ) -> Result<Option<G>, AllocError>
+    requires { AreMarked aim.now.annotations.now aim.now.barriers.now }
     ensures { IfOk result (λ made. (name : AnyName) (Q : Option AnyFormula) (cs : List AnyCondition) → (aim.now.is_ordered ≡ true → Rises 0 (nodes_of_list block.now)) → StandsIf G.stands behind Q → AreFound G.stands name found.old.items cs → StandsIf G.stands made (before_list aim.now.program.now (part_at P.need_of P.effect_of P.known_of aim.now) aim.now.target block.now Q) × AreFound G.stands name found.new.items (list_conditions aim.now.program.now name (part_at P.need_of P.effect_of P.known_of aim.now) aim.now.target hypotheses.now block.now Q ++ cs)) }
 {
     let mut goal = behind;

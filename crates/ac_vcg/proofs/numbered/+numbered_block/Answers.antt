@@ -1,8 +1,7 @@
 use Rattle.std.proofs.Common.{◌≡◌, ◌<◌, get_or, length, ap, rules, arith}
 use Rattle.ac_tree.specs.declared.program.StmtKind.{StmtKind}
 use Rattle.ac_tree.specs.Preorder.{inside_stmt}
-use Rattle.ac_profile.proofs.Merged.{drop_next}
-use Rattle.ac_vcg.proofs.Ordered.{told_weaker, after_own, index_and_expr, numbered_if, numbered_for, numbered_while, block_next}
+use Rattle.ac_vcg.proofs.Ordered.{told_weaker, after_own, index_and_expr, numbered_if, numbered_for, numbered_while, drop_next, block_next}
 use Rattle.ac_vcg.proofs.numbered.+numbered_block.Goals as goal
 
 pub behind_block-loop-stmt-preserved : goal.behind_block-loop-stmt-preserved
