@@ -12,13 +12,25 @@ ghost use Rattle.ac_conditions.specs.Tests.{one_more as next_term};
 ghost use Rattle.ac_preconditions.specs.Stands.{StandsIf};
 
 use crate::aim::Aim;
+use crate::sites::element_site;
 use crate::test_formulas::{one_more, variable};
 use ac_logic::{ArrayTerm, Change, Label, LabelKind, Sym, Term};
-use ac_policy::{Policy, Site, SiteKind, first_index, scalar_write, second_index, term_of};
+use ac_policy::{Policy, SiteKind, first_index, scalar_write, second_index, term_of};
 use ac_profile::Precondition;
 use ac_shared::Shared;
 use ac_tree::{Expr, Index, Name, NodeId, Program};
 use std::alloc::{AllocError, Global};
+
+/// The change of a value, and then what a policy says of it.
+fn with_effect(alloc: Global, write: Change, effect: Vec<Change>) -> Result<Vec<Change>, AllocError>
+    ensures { IfOk result (λ cs. cs.items ≡ write ∷ effect.items) }
+{
+    let mut effect = effect;
+    let mut changes = Vec::new(alloc);
+    changes.push(write)?;
+    changes.append(&mut effect)?;
+    Ok(changes)
+}
 
 /// The changes of a write of a scalar.
 fn scalar_changes<P: Policy>(
@@ -31,11 +43,9 @@ fn scalar_changes<P: Policy>(
     ensures { IfOk result (λ cs. cs.items ≡ any_change.Scalar (symbol.Value name.now) value ∷ P.effect_of aim.now.policy.now aim.now.program.now (written_scalar node name.now)) }
 {
     let site = scalar_write(alloc, node, name)?;
-    let mut effect = aim.policy.effect(alloc, aim.program, &site)?;
-    let mut changes = Vec::new(alloc);
-    changes.push(Change::Scalar(Sym::Value(name.clone()?), value))?;
-    changes.append(&mut effect)?;
-    Ok(changes)
+    let effect = aim.policy.effect(alloc, aim.program, &site)?;
+    let write = Change::Scalar(Sym::Value(name.clone()?), value);
+    with_effect(alloc, write, effect)
 }
 
 /// The changes of an assignment to a scalar, and of the variable of a `for` where it is entered.
@@ -85,28 +95,6 @@ fn written_array(
     Shared::new(alloc, ArrayTerm::Put(array, i, j, value))
 }
 
-/// The site of a write of an element.
-fn element_write(
-    alloc: Global,
-    index: &Index,
-    program: &Program,
-    node: NodeId,
-    name: &Name,
-) -> Result<Site, AllocError>
-    ensures { IfOk result (λ s. s ≡ site_at node SiteKind.Write name.now (first program.now index.now) (second program.now index.now)) }
-{
-    let name = name.clone()?;
-    let i = first_index(alloc, index, program)?;
-    let j = second_index(alloc, index, program)?;
-    Ok(Site {
-        node,
-        name,
-        kind: SiteKind::Write,
-        i,
-        j,
-    })
-}
-
 /// The changes of an assignment to an element.
 fn element_changes<P: Policy>(
     alloc: Global,
@@ -118,13 +106,11 @@ fn element_changes<P: Policy>(
 ) -> Result<Vec<Change>, AllocError>
     ensures { IfOk result (λ cs. cs.items ≡ any_change.Array (symbol.Value name.now) (PutOf (Array (symbol.Value name.now)) (first aim.now.program.now index.now) (second aim.now.program.now index.now) (expr_term aim.now.program.now value.now.kind)) ∷ P.effect_of aim.now.policy.now aim.now.program.now (site_at node SiteKind.Write name.now (first aim.now.program.now index.now) (second aim.now.program.now index.now))) }
 {
-    let site = element_write(alloc, index, aim.program, node, name)?;
-    let mut effect = aim.policy.effect(alloc, aim.program, &site)?;
+    let site = element_site(alloc, index, aim.program, node, name, SiteKind::Write)?;
+    let effect = aim.policy.effect(alloc, aim.program, &site)?;
     let array = written_array(alloc, index, value, aim.program, name)?;
-    let mut changes = Vec::new(alloc);
-    changes.push(Change::Array(Sym::Value(name.clone()?), array))?;
-    changes.append(&mut effect)?;
-    Ok(changes)
+    let write = Change::Array(Sym::Value(name.clone()?), array);
+    with_effect(alloc, write, effect)
 }
 
 /// The changes of an assignment to an element, which put in nothing loose.

@@ -12,9 +12,10 @@ ghost use Rattle.ac_preconditions.specs.Stands.{StandsIf};
 
 use crate::aim::{Aim, is_site};
 use crate::joins::{conjoined, labelled, under};
+use crate::sites::{element_site, scalar_site};
 use crate::test_formulas::{formula_of, negation};
-use ac_logic::{Formula, LabelKind, Term};
-use ac_policy::{Policy, Site, SiteKind, first_index, second_index};
+use ac_logic::{Formula, LabelKind};
+use ac_policy::{Policy, Site, SiteKind};
 use ac_profile::Precondition;
 use ac_shared::Shared;
 use ac_tree::{Cond, CondKind, Expr, ExprKind, Index, ItemKind, Name, NodeId, Program, kind_of};
@@ -65,16 +66,7 @@ pub fn scalar_goal<P: Policy, G: Precondition>(
     if !is_site(aim.target, node) {
         return Ok(later);
     }
-    let name = name.clone()?;
-    let i = Shared::new(alloc, Term::Num(0))?;
-    let j = Shared::new(alloc, Term::Num(0))?;
-    let site = Site {
-        node,
-        name,
-        kind,
-        i,
-        j,
-    };
+    let site = scalar_site(alloc, node, name, kind)?;
     let goal = site_goal(alloc, &site, aim)?;
     conjoined(alloc, goal, later)
 }
@@ -94,16 +86,7 @@ pub fn element_goal<P: Policy, G: Precondition>(
     if !is_site(aim.target, node) {
         return Ok(later);
     }
-    let name = name.clone()?;
-    let i = first_index(alloc, index, aim.program)?;
-    let j = second_index(alloc, index, aim.program)?;
-    let site = Site {
-        node,
-        name,
-        kind,
-        i,
-        j,
-    };
+    let site = element_site(alloc, index, aim.program, node, name, kind)?;
     let goal = site_goal(alloc, &site, aim)?;
     conjoined(alloc, goal, later)
 }

@@ -12,4 +12,5 @@ pub mod facts;
 pub mod goals;
 pub mod hypotheses;
 pub mod joins;
+mod sites;
 mod test_formulas;

@@ -1,11 +1,9 @@
-pub mod Blocks
 pub mod Implied
 pub mod Findings
 pub mod Walks
 pub mod Cuts
 pub mod Outside
 pub mod Taken
-pub mod Ordered
 pub mod Reaching
 pub mod Limited
 pub mod Measured

@@ -3,7 +3,6 @@ use Rattle.std.proofs.Common.{◌≡◌, ◌⊎◌, ℕ, ◌+◌, ◌≤◌, ◌
 use Rattle.std.proofs.lemmas.Bool.{false≢true}
 use Rattle.std.proofs.lemmas.Bool.Decides.{nat_tests}
 use Rattle.std.proofs.lemmas.List.{drop_more}
-use mathlib.Core.Former.{Count}
 use Rattle.ac_tree.specs.declared.node.NodeId.{NodeId}
 use Rattle.ac_tree.specs.declared.path.Target.{Target}
 use Rattle.ac_tree.specs.declared.path.Target.TheVariants.{Entry, Keep, Barrier, Site}
@@ -12,11 +11,9 @@ use Rattle.ac_tree.specs.declared.program.Cond.{Cond}
 use Rattle.ac_tree.specs.declared.program.Expr.{Expr}
 use Rattle.ac_tree.specs.declared.program.Program.{Program}
 use Rattle.ac_tree.specs.declared.program.Stmt.{Stmt}
-use Rattle.ac_tree.specs.declared.program.StmtKind.{StmtKind, the_lemmas as stmt_lemmas, Row_of-Stmt, end_of-Stmt, more_of-Stmt, items-the_row-Stmt}
+use Rattle.ac_tree.specs.declared.program.StmtKind.{StmtKind}
 use Rattle.ac_tree.specs.declared.program.StmtKind.TheVariants as stmt
-use Rattle.ac_tree.specs.Numbering.{program_nodes}
-use Rattle.ac_tree.specs.Preorder.{inside_expr, inside_cond, inside_stmt, nodes_of_row, nodes_of_list, nodes_of_items, nodes_of, numbers_from, IsNumbered}
-use Rattle.ac_tree.proofs.NodeLaws.{numbered_in_preorder}
+use Rattle.ac_tree.specs.Preorder.{inside_expr, inside_cond, inside_stmt, nodes_of_list}
 use Rattle.ac_run.specs.Declarations.{NameBytes}
 use Rattle.ac_logic.specs.declared.condition.Condition.{Condition}
 use Rattle.ac_logic.specs.declared.formula.Formula.{Formula}
@@ -28,6 +25,7 @@ use Rattle.ac_conditions.proofs.ConditionsInOrder.{stmt_stands}
 use Rattle.ac_conditions.proofs.PairsInOrder.{targets_at}
 use Rattle.ac_conditions.proofs.Sublists.{IsSublist}
 use Rattle.ac_conditions.proofs.TargetsCover.{is_same, Apart, apart_barrier, none_past, before_none, none_aims_in, no_barrier_condition}
+use Rattle.ac_targets.proofs.Nodes.{nodes_if, nodes_for, nodes_while}
 use Rattle.ac_vcg.specs.declared.found.Found.{Found}
 use Rattle.ac_preconditions.specs.Outside.{Rises, node_of, IsAtNone, first_node, is_from, is_outside}
 use Rattle.ac_preconditions.specs.Stands.{StandsIf}
@@ -56,30 +54,7 @@ rises_right i (x ∷ xs) ys r = weaker i (x.0 + 1) ys below (rises_right (x.0 + 
 least : (i : ℕ) (xs : List NodeId) (y : NodeId) (ys : List NodeId) → Rises i (xs ++ y ∷ ys) → i ≤ y.0
 least i xs y ys r = (rises_right i xs (y ∷ ys) r).0
 
-numbers_rise : (i n : ℕ) → Rises i (numbers_from i n)
-numbers_rise i zero = tt
-numbers_rise i (suc n) = (omega arith, numbers_rise (i + 1) n)
-
--- the body of a numbered program
-pub body_rises : (p : Program) → IsNumbered p → Rises 0 (nodes_of_list p.body)
-body_rises p n =
-    rises_right 0 (p.node.id ∷ nodes_of_items p.items) (nodes_of_list p.body)
-    (subst (λ (ns : List NodeId). Rises 0 ns) (sym (numbered_in_preorder p n)) (numbers_rise 0 (program_nodes p)))
-
 -- the blocks of a statement
-
-node_rows : (n : Count) (row : Row_of-Stmt n) → nodes_of_row row ≡ nodes_of_list (items-the_row-Stmt n row)
-node_rows _ end_of-Stmt = refl
-node_rows _ (more_of-Stmt {n = n} at s rest) = ap (λ (ns : List NodeId). (at.id ∷ inside_stmt s) ++ ns) (node_rows n rest)
-
-pub nodes_if : (test : Cond) (ys zs : List Stmt) → inside_stmt (stmt.If test ys zs) ≡ (test.node.id ∷ inside_cond test.kind) ++ (nodes_of_list ys ++ nodes_of_list zs)
-nodes_if test ys zs = first_of (search (rules, stmt_lemmas, node_rows), grind (arith, stmt_lemmas, node_rows))
-
-pub nodes_for : (x : NameBytes) (lo hi : Expr) (body : List Stmt) → inside_stmt (stmt.For x lo hi body) ≡ (lo.node.id ∷ inside_expr lo.kind) ++ ((hi.node.id ∷ inside_expr hi.kind) ++ nodes_of_list body)
-nodes_for x lo hi body = first_of (search (rules, stmt_lemmas, node_rows), grind (arith, stmt_lemmas, node_rows))
-
-pub nodes_while : (test : Cond) (body : List Stmt) → inside_stmt (stmt.While test body) ≡ (test.node.id ∷ inside_cond test.kind) ++ nodes_of_list body
-nodes_while test body = first_of (search (rules, stmt_lemmas, node_rows), grind (arith, stmt_lemmas, node_rows))
 
 abbrev RisesIn : List Stmt → Type 0
 RisesIn block = Rises 0 (nodes_of_list block)

@@ -36,10 +36,10 @@ use Rattle.ac_conditions.specs.Marked.{AreMarked, needed_nodes}
 use Rattle.ac_conditions.specs.Part.{Part, part_of, places_of}
 use Rattle.ac_conditions.specs.Targets.{list_targets}
 use Rattle.ac_vcg.specs.declared.plan.Plan.{Plan}
-use Rattle.ac_vcg.specs.Numbered.{IsInOrder}
+use Rattle.ac_targets.specs.Numbered.{IsInOrder}
 use Rattle.ac_preconditions.specs.Outside.{node_of}
 use Rattle.ac_vcg.specs.Plan.{AllAt, AreReached, IsKept, IsPlan}
-use Rattle.ac_vcg.proofs.Ordered.{numbers_of}
+use Rattle.ac_targets.proofs.Ordered.{numbers_of}
 use Rattle.ac_vcg.proofs.Taken.{each_at}
 
 -- the conditions of a target aim at it

@@ -5,7 +5,7 @@ use Rattle.ac_logic.specs.declared.formula.Formula.{Formula}
 use Rattle.ac_conditions.specs.Ranges.{ranges}
 use Rattle.ac_vcg.specs.declared.one_target.Ground.{Ground}
 use Rattle.ac_profile.specs.declared.precondition.Made.{Made}
-use Rattle.ac_vcg.specs.Numbered.{IsInOrder}
+use Rattle.ac_targets.specs.Numbered.{IsInOrder}
 
 -- the ranges of the inputs of a program, and whether its nodes are known to be in order
 pub record IsGround (p : Program) (g : Ground) : Type 0 where

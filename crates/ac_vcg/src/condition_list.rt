@@ -14,13 +14,12 @@ ghost use Rattle.ac_vcg.specs.Stands.{AreFound, IsFor};
 use crate::fault::VcgFault;
 use crate::found::Found;
 use crate::limits::{check_count, check_sizes};
-use crate::numbered::is_numbered;
 use crate::one_target::{Ground, conditions_at};
 use crate::plan::make_plan;
-use crate::ranges::ranges;
 use ac_logic::{Annotation, Condition};
 use ac_policy::Policy;
 use ac_profile::Made;
+use ac_targets::{is_numbered, ranges};
 use ac_tree::{PolicyName, Program, Target};
 use std::alloc::{AllocError, Global};
 

@@ -5,11 +5,8 @@ mod condition_list;
 mod fault;
 mod found;
 mod limits;
-mod numbered;
 mod one_target;
 mod plan;
-mod ranges;
-mod targets;
 mod walk;
 
 pub use condition_list::conditions;

@@ -13,20 +13,20 @@ ghost use Rattle.ac_conditions.specs.Marked.{needed_nodes};
 ghost use Rattle.ac_conditions.specs.Part.{part_of, places_of};
 ghost use Rattle.ac_conditions.specs.Targets.{list_targets};
 ghost use Rattle.ac_vcg.specs.Ground.{IsGround};
-ghost use Rattle.ac_vcg.specs.Numbered.{IsInOrder};
+ghost use Rattle.ac_targets.specs.Numbered.{IsInOrder};
 ghost use Rattle.ac_preconditions.specs.Outside.{node_of as target_node};
 ghost use Rattle.ac_vcg.specs.Plan.{IsPlan, IsKept, AreReached};
 ghost use Rattle.ac_vcg.specs.Stands.{AreFound};
 
 use crate::found::Found;
 use crate::one_target::{Ground, conditions_at};
-use crate::targets::targets;
 use ac_flow::marks::{is_marked, mark_nodes};
 use ac_flow::pairs;
 use ac_logic::Annotation;
 use ac_policy::{Policy, sites};
 use ac_preconditions::aim::node_of;
 use ac_profile::Reached;
+use ac_targets::targets;
 use ac_tree::{Cut, NodeId, Pair, Place, Program, Target};
 use std::alloc::{AllocError, Global};
 

@@ -5,7 +5,7 @@ use Rattle.ac_conditions.specs.Part.{part_of}
 use Rattle.ac_preconditions.specs.Outside.{Rises}
 use Rattle.ac_vcg.proofs.Findings.{found_as}
 use Rattle.ac_vcg.proofs.OneTarget.{whole_target}
-use Rattle.ac_vcg.proofs.Ordered.{body_rises}
+use Rattle.ac_targets.proofs.Ordered.{body_rises}
 use Rattle.ac_vcg.proofs.one_target.conditions_at.Goals as goal
 
 pub returns : goal.returns

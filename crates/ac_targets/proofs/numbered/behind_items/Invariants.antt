@@ -1,7 +1,7 @@
 use Rattle.std.proofs.Common.{ℕ, drop}
 use Rattle.ac_tree.specs.Preorder.{nodes_of_items}
-use Rattle.ac_vcg.specs.Numbered.{AreNumbered}
-use Rattle.ac_vcg.proofs.numbered.behind_items.Given as goal
+use Rattle.ac_targets.specs.Numbered.{AreNumbered}
+use Rattle.ac_targets.proofs.numbered.behind_items.Given as goal
 
 -- where the rest is numbered from here on, all are
 abbrev pub invariant-loop-item : goal.invariant-loop-item

@@ -1,5 +1,5 @@
-use Rattle.ac_vcg.proofs.Ordered.{told_weaker, program_numbered}
-use Rattle.ac_vcg.proofs.numbered.behind_program.Goals as goal
+use Rattle.ac_targets.proofs.Ordered.{told_weaker, program_numbered}
+use Rattle.ac_targets.proofs.numbered.behind_program.Goals as goal
 
 pub returns : goal.returns
 returns c =

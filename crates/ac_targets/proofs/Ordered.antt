@@ -12,9 +12,9 @@ use Rattle.ac_tree.specs.declared.program.StmtKind.{StmtKind}
 use Rattle.ac_tree.specs.declared.program.StmtKind.TheVariants as stmt
 use Rattle.ac_tree.specs.Preorder.{inside_expr, inside_index, inside_cond, inside_stmt, nodes_of, nodes_of_items, nodes_of_list, numbers_from}
 use Rattle.ac_run.specs.Declarations.{NameBytes}
-use Rattle.ac_vcg.specs.Numbered.{AreNumbered, IsInOrder}
+use Rattle.ac_targets.specs.Numbered.{AreNumbered, IsInOrder}
 use Rattle.ac_preconditions.specs.Outside.{Rises}
-use Rattle.ac_vcg.proofs.Outside.{nodes_if, nodes_for, nodes_while}
+use Rattle.ac_targets.proofs.Nodes.{nodes_if, nodes_for, nodes_while}
 
 -- one list and then another
 pub numbered_both : (i j k : ℕ) (xs ys : List NodeId) → AreNumbered i xs j → AreNumbered j ys k → AreNumbered i (xs ++ ys) k

@@ -1,6 +1,6 @@
 use Rattle.std.proofs.Common.{◌≡◌, ◌++◌, drop}
 use Rattle.ac_conditions.specs.Ranges.{ranges}
-use Rattle.ac_vcg.proofs.ranges.ranges.Given as goal
+use Rattle.ac_targets.proofs.input_ranges.ranges.Given as goal
 
 -- the ranges so far, and those of the rest, are all
 abbrev pub invariant-loop-item : goal.invariant-loop-item

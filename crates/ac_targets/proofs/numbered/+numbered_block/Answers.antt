@@ -1,8 +1,8 @@
 use Rattle.std.proofs.Common.{◌≡◌, ◌<◌, get_or, length, ap, rules, arith}
 use Rattle.ac_tree.specs.declared.program.StmtKind.{StmtKind}
 use Rattle.ac_tree.specs.Preorder.{inside_stmt}
-use Rattle.ac_vcg.proofs.Ordered.{told_weaker, after_own, index_and_expr, numbered_if, numbered_for, numbered_while, drop_next, block_next}
-use Rattle.ac_vcg.proofs.numbered.+numbered_block.Goals as goal
+use Rattle.ac_targets.proofs.Ordered.{told_weaker, after_own, index_and_expr, numbered_if, numbered_for, numbered_while, drop_next, block_next}
+use Rattle.ac_targets.proofs.numbered.+numbered_block.Goals as goal
 
 pub behind_block-loop-stmt-preserved : goal.behind_block-loop-stmt-preserved
 behind_block-loop-stmt-preserved t c = λ end h.

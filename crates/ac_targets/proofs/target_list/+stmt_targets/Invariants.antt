@@ -1,6 +1,6 @@
 use Rattle.std.proofs.Common.{◌≡◌, ◌++◌, drop}
 use Rattle.ac_conditions.specs.Targets.{list_targets}
-use Rattle.ac_vcg.proofs.targets.+stmt_targets.Given as goal
+use Rattle.ac_targets.proofs.target_list.+stmt_targets.Given as goal
 
 -- the targets so far, and those of the rest, are all
 abbrev pub invariant-add_block-loop-stmt : goal.invariant-add_block-loop-stmt

@@ -2,9 +2,9 @@ use Rattle.std.proofs.Common.{ap}
 use Rattle.ac_tree.specs.declared.program.ExprKind.{ExprKind}
 use Rattle.ac_tree.specs.declared.program.Index.{Index}
 use Rattle.ac_tree.specs.Preorder.{inside_expr, inside_index}
-use Rattle.ac_vcg.specs.Opened.{hidden, expr_shape, expr_child}
-use Rattle.ac_vcg.proofs.Ordered.{told_weaker, after_own, two_exprs}
-use Rattle.ac_vcg.proofs.numbered.+numbered.Goals as goal
+use Rattle.ac_targets.specs.Opened.{hidden, expr_shape, expr_child}
+use Rattle.ac_targets.proofs.Ordered.{told_weaker, after_own, two_exprs}
+use Rattle.ac_targets.proofs.numbered.+numbered.Goals as goal
 
 pub behind_expr-returns-in_ok-middle-in-Add : goal.behind_expr-returns-in_ok-middle-in-Add
 unfolding hidden expr_shape expr_child

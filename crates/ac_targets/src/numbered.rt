@@ -1,7 +1,7 @@
 //! Whether the nodes of a program are numbered in preorder, as they are in each that is read.
 ghost use Rattle.std.specs.Prelude.{◌≡◌, [], ◌∷◌, true, IfSome};
 ghost use Rattle.ac_tree.specs.Preorder.{inside_expr, inside_index, inside_cond, inside_stmt, nodes_of_list, nodes_of_items, nodes_of};
-ghost use Rattle.ac_vcg.specs.Numbered.{AreNumbered, IsInOrder};
+ghost use Rattle.ac_targets.specs.Numbered.{AreNumbered, IsInOrder};
 
 use ac_tree::{Cond, CondKind, Expr, ExprKind, Index, Item, NodeId, Program, Stmt, StmtKind};
 

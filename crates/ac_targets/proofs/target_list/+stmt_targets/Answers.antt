@@ -1,5 +1,5 @@
-use Rattle.ac_vcg.proofs.Blocks.{added_if, added_for, added_while}
-use Rattle.ac_vcg.proofs.targets.+stmt_targets.Goals as goal
+use Rattle.ac_targets.proofs.Blocks.{added_if, added_for, added_while}
+use Rattle.ac_targets.proofs.target_list.+stmt_targets.Goals as goal
 
 pub add_stmt-returns-in_ok-add_block-in-If-2 : goal.add_stmt-returns-in_ok-add_block-in-If-2
 add_stmt-returns-in_ok-add_block-in-If-2 t c =

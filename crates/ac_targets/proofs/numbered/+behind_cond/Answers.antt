@@ -1,9 +1,9 @@
 use Rattle.std.proofs.Common.{ap}
 use Rattle.ac_tree.specs.declared.program.CondKind.{CondKind}
 use Rattle.ac_tree.specs.Preorder.{inside_cond}
-use Rattle.ac_vcg.specs.Opened.{hidden, cond_shape, cond_child}
-use Rattle.ac_vcg.proofs.Ordered.{told_weaker, after_own, two_exprs, two_conds}
-use Rattle.ac_vcg.proofs.numbered.+behind_cond.Goals as goal
+use Rattle.ac_targets.specs.Opened.{hidden, cond_shape, cond_child}
+use Rattle.ac_targets.proofs.Ordered.{told_weaker, after_own, two_exprs, two_conds}
+use Rattle.ac_targets.proofs.numbered.+behind_cond.Goals as goal
 
 pub returns-in_ok-middle-in-Rel : goal.returns-in_ok-middle-in-Rel
 unfolding hidden cond_shape cond_child
