@@ -8,7 +8,7 @@ use Rattle.ac_proof.specs.declared.certificate.CertPart.{CertPart}
 use Rattle.ac_proof.specs.Checked.{HasFewPremises}
 use Rattle.ac_vcg.specs.declared.fault.VcgFault.{VcgFault}
 use Rattle.ac_vcg.specs.declared.fault.VcgFault.TheVariants as vcg
-use Rattle.ac_vcg.specs.Refusals.{refusal}
+use Rattle.ac_vcg.specs.Refusals.{refusal_of_all}
 use Rattle.ac_kernel.specs.declared.refused.Refused.{Refused}
 use Rattle.ac_kernel.specs.declared.refused.Refused.TheVariants.{Annotation, Limit, Missing, Differs, Step, Extra, OutOfMemory}
 use Rattle.ac_kernel.specs.Entries.{AreShown, IsFirstRefused}
@@ -34,11 +34,11 @@ limit_in (vcg.Total value) = Some limit.Total
 limit_in vcg.OutOfMemory = None
 
 abbrev pub AreWithinLimits : List Condition → Type 0
-AreWithinLimits conditions = refusal conditions ≡ None
+AreWithinLimits conditions = refusal_of_all conditions ≡ None
 
 -- the first limit that the conditions pass
 abbrev pub IsLimitRefusal : List Condition → Refused → Type 0
-IsLimitRefusal conditions (Limit which) = (fault : VcgFault) × (refusal conditions ≡ Some fault) × (limit_in fault ≡ Some which)
+IsLimitRefusal conditions (Limit which) = (fault : VcgFault) × (refusal_of_all conditions ≡ Some fault) × (limit_in fault ≡ Some which)
 IsLimitRefusal conditions OutOfMemory = Unit {0}
 IsLimitRefusal conditions _ = ⊥
 

@@ -1,5 +1,6 @@
 -- The pairs of statements with blocks, and how control comes through them.
 use Rattle.std.proofs.Common.{◌≡◌, ℕ, ◌+◌, ◌-◌, ◌^◌, ◌<◌, ◌≤◌, min, Bool, true, false, ◌||◌, ◌&&◌, if◌then◌else◌, List, [], ◌∷◌, ◌++◌, length, length-append, drop, get_or, refl, sym, ◌∙◌, ap, subst, arith}
+use Rattle.std.proofs.lemmas.List.{drop_more}
 use Rattle.ac_tree.specs.declared.node.NodeId.{NodeId}
 use Rattle.ac_tree.specs.declared.path.Cut.{Cut}
 use Rattle.ac_tree.specs.declared.path.Cut.TheVariants.{Start, Head, Exit}
@@ -27,6 +28,13 @@ one_told c = one (2 ^ 64 - 1) (omega arith)
   where
     one : (m : ℕ) → 1 ≤ m → 1 ≡ min 1 m
     one m h = omega (arith, h)
+
+none_more : (n : ℕ) → n ≡ 0 + n
+none_more n = omega arith
+
+-- one of some statements after the other
+pub drop_next : (sts : List Stmt) (i : ℕ) (st : Stmt) → i < length sts → st ≡ get_or sts i st → drop i sts ≡ st ∷ drop (i + 1) sts
+drop_next sts i st low read = drop_more sts i st low ∙ ap (λ (y : Stmt). y ∷ drop (i + 1) sts) (sym read)
 
 module _ (barrier : ℕ → Bool) where
   -- one part of an `if` or the other
@@ -56,6 +64,9 @@ module _ (barrier : ℕ → Bool) where
       and_and true g q = refl
       and_and false g q = refl
 
+  told_twice : (m v x : ℕ) → v ≡ min x m → v ≡ min v m
+  told_twice m v x h = omega (arith, h)
+
   exits_more : (m e l k n r x z w : ℕ) (p q b g : Bool) → b ≡ g → x ≡ min l m → z ≡ min ((if b then e else 0) + x) m → w ≡ (if q then l else 0) + r →
       min k m ≡ min ((if g && q then e else 0) + w) m → min k m ≡ min ((if q then z else 0) + r) m
   exits_more m e l k n r x z w p true true true h f i j d = omega (arith, f, i, j, d)
@@ -67,20 +78,34 @@ module _ (barrier : ℕ → Bool) where
 
   if_length : (q : Bool) (l : List Cut) (r : List Cut) → length ((if q then l else []) ++ r) ≡ (if q then length l else 0) + length r
   if_length true l r = length-append l r
-  if_length false l r = refl
+  if_length false l r = none_more (length r)
 
   -- the whole block by what is passed and what is left
   pub record IsSoFar (t : Through) (rest all : List Stmt) : Type 0 where
+    pub told : t.exits ≡ saturated t.exits
     pub passes : list_passes barrier all ≡ (t.passes && list_passes barrier rest)
     pub exits : saturated (length (list_exits barrier all)) ≡ saturated ((if list_passes barrier rest then t.exits else 0) + length (list_exits barrier rest))
 
   pub one_passed : (t u v : Through) (st : Stmt) (rest all : List Stmt) → IsSoFar t (st ∷ rest) all → IsLeft barrier u st.node.id st.kind → v.passes ≡ (t.passes && u.passes) → v.exits ≡ saturated ((if u.passes then t.exits else 0) + u.exits) → IsSoFar v rest all
   one_passed t u v st rest all h k e f = record {
+    told = told_twice (2 ^ 64 - 1) v.exits ((if u.passes then t.exits else 0) + u.exits) f;
     passes = both_and t.passes (goes_on barrier st.node.id st.kind) (list_passes barrier rest) (list_passes barrier all) (list_passes barrier (st ∷ rest)) u.passes v.passes h.passes refl k.passes e;
     exits =
         exits_more (2 ^ 64 - 1) t.exits (length (leaving barrier st.node.id st.kind)) (length (list_exits barrier all)) 0 (length (list_exits barrier rest)) u.exits v.exits (length (list_exits barrier (st ∷ rest))) true (list_passes barrier rest) u.passes
         (goes_on barrier st.node.id st.kind) k.passes k.exits f (if_length (list_passes barrier rest) (leaving barrier st.node.id st.kind) (list_exits barrier rest)) h.exits;
   }
+
+  pub all_passed : (t : Through) (rest all : List Stmt) → rest ≡ [] → IsSoFar t rest all → IsThroughList barrier t all
+  all_passed t rest all e h =
+      let k = subst (λ (l : List Stmt). IsSoFar t l all) e h in
+      record { passes = sym (k.passes ∙ and_true t.passes); exits = k.told ∙ sym (k.exits ∙ ap (λ n. saturated n) (plus_none t.exits)) }
+    where
+      and_true : (b : Bool) → (b && true) ≡ b
+      and_true true = refl
+      and_true false = refl
+
+      plus_none : (n : ℕ) → n + 0 ≡ n
+      plus_none n = omega arith
 
   module _ (subject : ℕ → Bool) where
     -- what code counts for a statement with blocks, part by part
@@ -145,6 +170,6 @@ all_counted b c s u start new sts body h k none empty e counted =
     let here = counted (Start ∷ []) (one_told Start) in
     let same : list_pairs b s (Start ∷ []) sts ≡ list_pairs c u (Start ∷ []) body = ap (λ (l : List Stmt). list_pairs b s (Start ∷ []) l) e ∙ pairs-marked b c s u (Start ∷ []) body h k in
     subst (λ (l : List Pair). IsCountOf new l) same (record {
-      count = here.count ∙ ap (λ n. saturated (n + length (list_pairs b s (Start ∷ []) sts))) none;
+      count = here.count ∙ ap (λ n. saturated (n + length (list_pairs b s (Start ∷ []) sts))) none ∙ ap (λ n. saturated n) (sym (none_more (length (list_pairs b s (Start ∷ []) sts))));
       nodes = λ n. here.nodes n ∙ ap (λ (l : List NodeId). is_subject l n || is_subject (aimed_nodes (list_pairs b s (Start ∷ []) sts)) n) empty;
     })

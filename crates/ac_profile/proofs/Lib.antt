@@ -4,3 +4,4 @@ pub mod Steps
 pub mod Raised
 pub mod Changing
 pub mod Profiles
+pub mod Measures

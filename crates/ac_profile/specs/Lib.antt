@@ -1,3 +1,4 @@
 pub mod Opened
 pub mod Profile
+pub mod Measure
 pub mod Added

@@ -7,7 +7,7 @@ use Rattle.ac_tree.specs.declared.path.Pair.{Pair}
 use Rattle.ac_logic.specs.Size.{saturated}
 use Rattle.ac_vcg.specs.declared.fault.VcgFault.{VcgFault}
 use Rattle.ac_vcg.specs.declared.fault.VcgFault.TheVariants as fault
-use Rattle.ac_vcg.specs.Refusals.{passes, refusal_if, size_refusal, depth_refusal, total_refusal, number_refusal}
+use Rattle.ac_vcg.specs.Refusals.{is_above, refusal_if, size_refusal, depth_refusal, total_refusal, number_refusal}
 
 told : (m l x y : ℕ) → l < m → min x m ≡ min y m → nat_lt l x ≡ nat_lt l y
 told m l x y h e = elim (low_or_high l x) [ inl a ↦ both (above a) (above (omega (arith, h, e, a))) | inr b ↦ neither (below b) (below (omega (arith, h, e, b))) ]
@@ -36,5 +36,18 @@ same_depths pair x y h = ap (λ b. refusal_if b (fault.Depth pair 1024)) (told (
 pub same_totals : (x y : ℕ) → saturated x ≡ saturated y → total_refusal x ≡ total_refusal y
 same_totals x y h = ap (λ b. refusal_if b (fault.Total 20000000)) (told (2 ^ 64 - 1) 20000000 x y (omega arith) h)
 
-pub same_numbers : (x y : ℕ) → saturated x ≡ saturated y → number_refusal x ≡ number_refusal y
-same_numbers x y h = ap (λ b. refusal_if b (fault.Count 20000)) (told (2 ^ 64 - 1) 20000 x y (omega arith) h)
+pub same_counts : (x y : ℕ) → saturated x ≡ saturated y → is_above kind.Conditions x ≡ is_above kind.Conditions y
+same_counts x y h = told (2 ^ 64 - 1) 20000 x y (omega arith) h
+
+pub same_numbers : (x y : ℕ) → is_above kind.Conditions x ≡ is_above kind.Conditions y → number_refusal x ≡ number_refusal y
+same_numbers x y h = ap (λ b. refusal_if b (fault.Count 20000)) h
+
+-- a part that is beyond the limit decides for the whole
+more_above : (m l x rest all : ℕ) → l < m → l < x → min (x + rest) m ≡ min all m → l < all
+more_above m l x rest all h k e = omega (arith, h, k, e)
+
+pub already_above : (x rest all : ℕ) → 20000 < x → saturated (x + rest) ≡ saturated all → is_above kind.Conditions x ≡ is_above kind.Conditions all
+already_above x rest all h e = above x h ∙ sym (above all (more_above (2 ^ 64 - 1) 20000 x rest all (omega arith) h e))
+  where
+    above : (n : ℕ) → 20000 < n → nat_lt 20000 n ≡ true
+    above n k = grind (arith, nat_tests, k)

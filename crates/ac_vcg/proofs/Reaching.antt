@@ -37,8 +37,9 @@ use Rattle.ac_conditions.specs.Part.{Part, part_of, places_of}
 use Rattle.ac_conditions.specs.Targets.{list_targets}
 use Rattle.ac_vcg.specs.declared.plan.Plan.{Plan}
 use Rattle.ac_targets.specs.Numbered.{IsInOrder}
-use Rattle.ac_preconditions.specs.Outside.{node_of}
+use Rattle.ac_pair_count.specs.PairCount.{target_node, aimed_nodes}
 use Rattle.ac_vcg.specs.Plan.{AllAt, AreReached, IsKept, IsPlan}
+use Rattle.ac_vcg.proofs.Limited.{same_counts}
 use Rattle.ac_targets.proofs.Ordered.{numbers_of}
 use Rattle.ac_vcg.proofs.Taken.{each_at}
 
@@ -55,9 +56,6 @@ own_conditions p q part t = all_at t (Start ∷ cuts_at (nodes_of p)) (condition
 
 -- a target at whose node none of the pairs aims has none
 
-abbrev pub aims : List Pair → List NodeId
-aims pairs = map (λ x. node_of x.target) pairs
-
 same_number : (n : ℕ) → nat_eq n n ≡ true
 same_number n = grind (arith, nat_tests)
 
@@ -65,25 +63,25 @@ either : (a b : Bool) → (a || b) ≡ false → (a ≡ false) × (b ≡ false)
 either false b h = (refl, h)
 either true b h = cc
 
-none_of : (t : Target) (cs : List Condition) → AllAt t cs → is_subject (aims (pairs_in cs)) (node_of t).0 ≡ false → cs ≡ []
+none_of : (t : Target) (cs : List Condition) → AllAt t cs → is_subject (aimed_nodes (pairs_in cs)) (target_node t).0 ≡ false → cs ≡ []
 none_of t [] own h = refl
 none_of t (c ∷ cs) own h =
-    let first = (either (nat_eq (node_of c.pair.target).0 (node_of t).0) (is_subject (aims (pairs_in cs)) (node_of t).0) h).0 in
-    let there : nat_eq (node_of c.pair.target).0 (node_of t).0 ≡ true = ap (λ (u : Target). nat_eq (node_of u).0 (node_of t).0) own.0 ∙ same_number (node_of t).0 in
+    let first = (either (nat_eq (target_node c.pair.target).0 (target_node t).0) (is_subject (aimed_nodes (pairs_in cs)) (target_node t).0) h).0 in
+    let there : nat_eq (target_node c.pair.target).0 (target_node t).0 ≡ true = ap (λ (u : Target). nat_eq (target_node u).0 (target_node t).0) own.0 ∙ same_number (target_node t).0 in
     cc
 
 module _ (at : Target → List Condition) (own : (t : Target) → AllAt t (at t)) where
-  apart : (x : Target) (ts : List Target) (t : Target) → is_subject (aims (pairs_in (at_each at (x ∷ ts)))) (node_of t).0 ≡ false →
-      (is_subject (aims (pairs_in (at x))) (node_of t).0 ≡ false) × (is_subject (aims (pairs_in (at_each at ts))) (node_of t).0 ≡ false)
+  apart : (x : Target) (ts : List Target) (t : Target) → is_subject (aimed_nodes (pairs_in (at_each at (x ∷ ts)))) (target_node t).0 ≡ false →
+      (is_subject (aimed_nodes (pairs_in (at x))) (target_node t).0 ≡ false) × (is_subject (aimed_nodes (pairs_in (at_each at ts))) (target_node t).0 ≡ false)
   apart x ts t h =
-      let parted : aims (pairs_in (at x ++ at_each at ts)) ≡ aims (pairs_in (at x)) ++ aims (pairs_in (at_each at ts)) =
-      ap (λ (l : List Pair). aims l) (map_append (λ (c : Condition). c.pair) (at x) (at_each at ts)) ∙ map_append (λ (x : Pair). node_of x.target) (pairs_in (at x)) (pairs_in (at_each at ts)) in
-      either (is_subject (aims (pairs_in (at x))) (node_of t).0) (is_subject (aims (pairs_in (at_each at ts))) (node_of t).0)
-      (sym (list_any-append (is_node (node_of t).0) (aims (pairs_in (at x))) (aims (pairs_in (at_each at ts)))) ∙ (sym (ap (λ (l : List NodeId). is_subject l (node_of t).0) parted) ∙ h))
+      let parted : aimed_nodes (pairs_in (at x ++ at_each at ts)) ≡ aimed_nodes (pairs_in (at x)) ++ aimed_nodes (pairs_in (at_each at ts)) =
+      ap (λ (l : List Pair). aimed_nodes l) (map_append (λ (c : Condition). c.pair) (at x) (at_each at ts)) ∙ map_append (λ (x : Pair). target_node x.target) (pairs_in (at x)) (pairs_in (at_each at ts)) in
+      either (is_subject (aimed_nodes (pairs_in (at x))) (target_node t).0) (is_subject (aimed_nodes (pairs_in (at_each at ts))) (target_node t).0)
+      (sym (list_any-append (is_node (target_node t).0) (aimed_nodes (pairs_in (at x))) (aimed_nodes (pairs_in (at_each at ts)))) ∙ (sym (ap (λ (l : List NodeId). is_subject l (target_node t).0) parted) ∙ h))
 
-  unreached : (ts : List Target) (i : ℕ) (t d : Target) → i < length ts → get_or ts i d ≡ t → is_subject (aims (pairs_in (at_each at ts))) (node_of t).0 ≡ false → at t ≡ []
+  unreached : (ts : List Target) (i : ℕ) (t d : Target) → i < length ts → get_or ts i d ≡ t → is_subject (aimed_nodes (pairs_in (at_each at ts))) (target_node t).0 ≡ false → at t ≡ []
   unreached [] i t d l g h = absurd (omega (arith, l))
-  unreached (x ∷ ts) zero t d l g h = none_of t (at t) (own t) (subst (λ (y : Target). is_subject (aims (pairs_in (at y))) (node_of t).0 ≡ false) g (apart x ts t h).0)
+  unreached (x ∷ ts) zero t d l g h = none_of t (at t) (own t) (subst (λ (y : Target). is_subject (aimed_nodes (pairs_in (at y))) (target_node t).0 ≡ false) g (apart x ts t h).0)
   unreached (x ∷ ts) (suc i) t d l g h = let low : i < length ts = omega (arith, l) in unreached ts i t d low g (apart x ts t h).1
 
 each_pushed : (at : Target → List Condition) (kept : List Target) (t : Target) → at_each at (kept ++ t ∷ []) ≡ at_each at kept ++ at t
@@ -99,22 +97,22 @@ module _ (at : Target → List Condition) (ts kept : List Target) (i : ℕ) (t d
       ∙ (append_assoc (at_each at kept) (at t) (at_each at (drop (i + 1) ts))
       ∙ (ap (λ (l : List Condition). at_each at kept ++ l) (sym (each_at at ts i t d low read)) ∙ before)))
 
-  target_left : (pairs : List Pair) (nodes others : List NodeId) (marks slice : List Bool) (marked : Bool) → marked ≡ mark_at slice (node_of t).0 → marked ≡ false → slice ≡ marks → ((n : ℕ) → mark_at marks n ≡ is_subject others n) → others ≡ nodes →
-      nodes ≡ aims pairs → AreReached at ts pairs → at_each at kept ++ at_each at (drop (i + 1) ts) ≡ at_each at ts
-  target_left pairs nodes others marks slice marked m f s told o e reached =
-      let n = (node_of t).0 in
-      let here : is_subject (aims (pairs_in (at_each at ts))) n ≡ false =
-      ap (λ (l : List Pair). is_subject (aims l) n) reached.paired ∙ (ap (λ (l : List NodeId). is_subject l n) (sym (o ∙ e)) ∙ (sym (told n) ∙ (ap (λ (l : List Bool). mark_at l n) (sym s) ∙ (sym m ∙ f)))) in
+  target_left : (pairs : List Pair) (nodes : List NodeId) (marks slice : List Bool) (marked : Bool) → marked ≡ mark_at slice (target_node t).0 → marked ≡ false → slice ≡ marks → ((n : ℕ) → mark_at marks n ≡ is_subject nodes n) →
+      ((n : ℕ) → is_subject nodes n ≡ is_subject (aimed_nodes pairs) n) → AreReached at ts pairs → at_each at kept ++ at_each at (drop (i + 1) ts) ≡ at_each at ts
+  target_left pairs nodes marks slice marked m f s told aimed reached =
+      let n = (target_node t).0 in
+      let here : is_subject (aimed_nodes (pairs_in (at_each at ts))) n ≡ false =
+      ap (λ (l : List Pair). is_subject (aimed_nodes l) n) reached.paired ∙ (sym (aimed n) ∙ (sym (told n) ∙ (ap (λ (l : List Bool). mark_at l n) (sym s) ∙ (sym m ∙ f)))) in
       let empty = unreached at reached.own ts i t d low read here in
       ap (λ (l : List Condition). at_each at kept ++ l) (ap (λ (l : List Condition). l ++ at_each at (drop (i + 1) ts)) (sym empty) ∙ sym (each_at at ts i t d low read)) ∙ before
 
-  pub target_next : (pairs : List Pair) (nodes others : List NodeId) (marks slice : List Bool) (more : List Target) → IsKept (mark_at slice (node_of t).0) t kept more → slice ≡ marks → ((n : ℕ) → mark_at marks n ≡ is_subject others n) → others ≡ nodes → nodes ≡ aims pairs →
-      AreReached at ts pairs → at_each at more ++ at_each at (drop (i + 1) ts) ≡ at_each at ts
-  target_next pairs nodes others marks slice more k s told o e reached = by (mark_at slice (node_of t).0) refl k
+  pub target_next : (pairs : List Pair) (nodes : List NodeId) (marks slice : List Bool) (more : List Target) → IsKept (mark_at slice (target_node t).0) t kept more → slice ≡ marks → ((n : ℕ) → mark_at marks n ≡ is_subject nodes n) →
+      ((n : ℕ) → is_subject nodes n ≡ is_subject (aimed_nodes pairs) n) → AreReached at ts pairs → at_each at more ++ at_each at (drop (i + 1) ts) ≡ at_each at ts
+  target_next pairs nodes marks slice more k s told aimed reached = by (mark_at slice (target_node t).0) refl k
     where
-      by : (b : Bool) → mark_at slice (node_of t).0 ≡ b → IsKept b t kept more → at_each at more ++ at_each at (drop (i + 1) ts) ≡ at_each at ts
+      by : (b : Bool) → mark_at slice (target_node t).0 ≡ b → IsKept b t kept more → at_each at more ++ at_each at (drop (i + 1) ts) ≡ at_each at ts
       by true m h = target_kept more h
-      by false m h = ap (λ (l : List Target). at_each at l ++ at_each at (drop (i + 1) ts)) h ∙ target_left pairs nodes others marks slice (mark_at slice (node_of t).0) refl m s told o e reached
+      by false m h = ap (λ (l : List Target). at_each at l ++ at_each at (drop (i + 1) ts)) h ∙ target_left pairs nodes marks slice (mark_at slice (target_node t).0) refl m s told aimed reached
 
 -- the pairs of control flow are those of the conditions
 
@@ -126,10 +124,10 @@ module _ (p : Program) (name : PolicyName) (need : Site → Option Formula) (eff
       (λ n. barriers n.0 ∙ barriers_of n annotations)
       (subst (λ (nodes : List NodeId). AreMarked p need (is_subject nodes)) (sym marks) (needed_marked_from p need (length (nodes_of p)) (numbers_of p ordered)))
 
-  pub planned : (plan : Plan) (all : List Target) (pairs : List Pair) → all ≡ list_targets p p.body → pairs_in (all_conditions p name need effect known annotations) ≡ pairs → plan.count ≡ length pairs →
+  pub planned : (plan : Plan) (all : List Target) (pairs : List Pair) → all ≡ list_targets p p.body → pairs_in (all_conditions p name need effect known annotations) ≡ pairs → saturated plan.count ≡ saturated (length pairs) →
       ((at : Target → List Condition) → AreReached at all pairs → at_each at plan.targets.items ≡ at_each at all) → IsPlan plan (conditions_at p name (part_of need effect known annotations)) (all_conditions p name need effect known annotations)
   planned plan all pairs targets paired count reached = record {
-    count = ap (λ n. saturated n) (count ∙ (ap (λ (l : List Pair). length l) (sym paired) ∙ length-map _ _));
+    count = same_counts plan.count (length (all_conditions p name need effect known annotations)) (count ∙ ap (λ n. saturated n) (ap (λ (l : List Pair). length l) (sym paired) ∙ length-map _ _));
     targets =
         let at = conditions_at p name (part_of need effect known annotations) in
         let same : at_each at all ≡ all_conditions p name need effect known annotations = ap (λ (ts : List Target). at_each at ts) targets in

@@ -1,6 +1,7 @@
 -- What is found of conditions, taken from its end; and conditions of several targets.
-use Rattle.std.proofs.Common.{◌≡◌, ℕ, ◌+◌, ◌-◌, ◌^◌, min, append_assoc, ◌<◌, Option, Some, None, List, [], ◌∷◌, ◌++◌, length, drop, get_or, refl, sym, ◌∙◌, ap, subst, arith, length-append}
-use Rattle.std.proofs.lemmas.List.{same_from_push, drop_more}
+use Rattle.std.proofs.Common.{◌≡◌, ℕ, ◌+◌, ◌-◌, ◌^◌, min, append_assoc, ◌<◌, ◌≤◌, Option, Some, None, List, [], ◌∷◌, ◌++◌, length, drop, get_or, refl, sym, ◌∙◌, ap, subst, arith, length-append}
+use Rattle.std.proofs.lemmas.List.{at_drop_all, same_from_push, drop_more}
+use Rattle.ac_tree.specs.declared.limit.LimitKind.TheVariants as kind
 use Rattle.ac_tree.specs.declared.path.Target.{Target}
 use Rattle.ac_tree.specs.declared.policy.PolicyName.{PolicyName}
 use Rattle.ac_logic.specs.declared.condition.Condition.{Condition}
@@ -9,8 +10,9 @@ use Rattle.ac_logic.specs.Size.{size_of, saturated}
 use Rattle.ac_conditions.specs.AllConditions.{at_each}
 use Rattle.ac_vcg.specs.declared.fault.VcgFault.{VcgFault}
 use Rattle.ac_vcg.specs.declared.found.Found.{Found}
-use Rattle.ac_vcg.specs.Refusals.{or_else, refusal_of, first_refusal, total_size}
+use Rattle.ac_vcg.specs.Refusals.{is_above, or_else, refusal_of_one, first_refusal, total_size}
 use Rattle.ac_vcg.specs.Stands.{IsFor, AreFound}
+use Rattle.ac_vcg.proofs.Limited.{same_counts}
 
 no_push : {X : Type 0} (xs : List X) (x : X) → [] ≡ xs ++ x ∷ [] → ⊥
 no_push [] x h = cc
@@ -40,7 +42,7 @@ first_of_three None b c = refl
 
 pub refusals_joined : (cs ds : List Condition) → first_refusal (cs ++ ds) ≡ or_else (first_refusal cs) (first_refusal ds)
 refusals_joined [] ds = refl
-refusals_joined (c ∷ cs) ds = ap (λ r. or_else (refusal_of c) r) (refusals_joined cs ds) ∙ first_of_three (refusal_of c) (first_refusal cs) (first_refusal ds)
+refusals_joined (c ∷ cs) ds = ap (λ r. or_else (refusal_of_one c) r) (refusals_joined cs ds) ∙ first_of_three (refusal_of_one c) (first_refusal cs) (first_refusal ds)
 
 pub sizes_joined : (cs ds : List Condition) → total_size (cs ++ ds) ≡ total_size cs + total_size ds
 sizes_joined [] ds = omega arith
@@ -69,6 +71,13 @@ counts_next f t d ts i x n y all c read low h e =
   where
     told : (m x n k y : ℕ) → n ≡ k → y ≡ min (x + n) m → min y m ≡ min (x + k) m
     told m x n k y c h = omega (arith, c, h)
+
+pub counts_told : (f : Target → List Condition) (ts : List Target) (i count : ℕ) → length ts ≤ i → saturated (count + length (at_each f (drop i ts))) ≡ saturated (length (at_each f ts)) → is_above kind.Conditions count ≡ is_above kind.Conditions (length (at_each f ts))
+counts_told f ts i count low h =
+    same_counts count (length (at_each f ts)) (sym (ap (λ n. saturated n) (plus_none count)) ∙ (ap (λ (l : List Target). saturated (count + length (at_each f l))) (sym (at_drop_all (λ (l : List Target). l) ts i low)) ∙ h))
+  where
+    plus_none : (n : ℕ) → n + 0 ≡ n
+    plus_none n = omega arith
 
 pub made_next : (f : Target → List Condition) (t d : Target) (ts : List Target) (i : ℕ) (before after all : List Condition) → after ≡ before ++ f t → get_or ts i d ≡ t → i < length ts → before ++ at_each f (drop i ts) ≡ all → after ++ at_each f (drop (i + 1) ts) ≡ all
 made_next f t d ts i before after all e read low h =

@@ -1,15 +1,16 @@
 -- No promise rests on this file: it says what is known of conditions before they are made.
 use Rattle.std.specs.Prelude.{◌≡◌, ℕ, Bool, true, false, List, [], ◌∷◌, ◌++◌, map, length}
+use Rattle.ac_tree.specs.declared.limit.LimitKind.TheVariants as kind
 use Rattle.ac_tree.specs.declared.path.Pair.{Pair}
 use Rattle.ac_tree.specs.declared.path.Target.{Target}
 use Rattle.ac_logic.specs.declared.condition.Condition.{Condition}
-use Rattle.ac_logic.specs.Size.{saturated}
 use Rattle.ac_conditions.specs.AllConditions.{at_each}
 use Rattle.ac_vcg.specs.declared.plan.Plan.{Plan}
+use Rattle.ac_vcg.specs.Refusals.{is_above}
 
--- the number of the conditions, and targets that have them all
+-- whether there are more conditions than the limit, and targets that have them all
 pub record IsPlan (plan : Plan) (at : Target → List Condition) (all : List Condition) : Type 0 where
-  pub count : saturated plan.count ≡ saturated (length all)
+  pub count : is_above kind.Conditions plan.count ≡ is_above kind.Conditions (length all)
   pub targets : at_each at plan.targets.items ≡ all
 
 abbrev pub AllAt : Target → List Condition → Type 0

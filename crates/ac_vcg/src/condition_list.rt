@@ -8,7 +8,7 @@ ghost use Rattle.ac_conditions.specs.AllConditions.{at_each, all_conditions as e
 ghost use Rattle.ac_conditions.specs.Conditions.{conditions_at as conditions_of};
 ghost use Rattle.ac_conditions.specs.Part.{part_of};
 ghost use Rattle.ac_vcg.specs.Ground.{IsGround, IsMade};
-ghost use Rattle.ac_vcg.specs.Refusals.{refusal, IsRefusal};
+ghost use Rattle.ac_vcg.specs.Refusals.{refusal_of_all, IsAnswered};
 ghost use Rattle.ac_vcg.specs.Stands.{AreFound, IsFor};
 
 use crate::fault::VcgFault;
@@ -32,8 +32,8 @@ pub fn conditions<P: Policy>(
     annotations: &[Annotation],
 ) -> Result<Vec<Condition>, VcgFault>
     ensures made { IfOk result (λ made. made.items ≡ every_condition program.now name (P.need_of policy.now program.now) (P.effect_of policy.now program.now) (P.known_of policy.now) annotations.now) }
-    ensures within { OnOk result (refusal (every_condition program.now name (P.need_of policy.now program.now) (P.effect_of policy.now program.now) (P.known_of policy.now) annotations.now) ≡ None) }
-    ensures fault { IfErr result (IsRefusal (refusal (every_condition program.now name (P.need_of policy.now program.now) (P.effect_of policy.now program.now) (P.known_of policy.now) annotations.now))) }
+    ensures within { OnOk result (refusal_of_all (every_condition program.now name (P.need_of policy.now program.now) (P.effect_of policy.now program.now) (P.known_of policy.now) annotations.now) ≡ None) }
+    ensures fault { IfErr result (IsAnswered (refusal_of_all (every_condition program.now name (P.need_of policy.now program.now) (P.effect_of policy.now program.now) (P.known_of policy.now) annotations.now))) }
 {
     let ranges = ranges(alloc, program)?;
     let is_ordered = is_numbered(program);

@@ -1,14 +1,18 @@
-//! Whether conditions are within the limits: they are measured without their formulas, one target at a time.
-ghost use Rattle.std.specs.Prelude.{◌≡◌, ◌+◌, ℕ, List, None, Some, IfErr, OnOk};
+//! Whether conditions are within the limits: they are measured without their formulas, one target at a time, and none beyond
+//! the limit on its size.
+ghost use Rattle.std.specs.Prelude.{◌≡◌, ◌+◌, ◌≤◌, ℕ, List, None, Some, IfErr, OnOk};
+ghost use Rattle.ac_tree.specs.declared.limit.LimitKind.TheVariants as kind;
+ghost use Rattle.ac_tree.specs.Limits.{limit_of};
 ghost use Rattle.ac_tree.specs.declared.policy.PolicyName.{PolicyName as AnyName};
 ghost use Rattle.ac_logic.specs.declared.condition.Condition.{Condition as AnyCondition};
-ghost use Rattle.ac_logic.specs.Size.{saturated};
+ghost use Rattle.ac_logic.specs.declared.formula.Formula.{Formula as AnyFormula};
+ghost use Rattle.ac_logic.specs.Size.{saturated, size_of};
 ghost use Rattle.ac_conditions.specs.AllConditions.{at_each};
 ghost use Rattle.ac_conditions.specs.Conditions.{conditions_at as conditions_of};
 ghost use Rattle.ac_conditions.specs.Part.{part_of};
 ghost use Rattle.ac_vcg.specs.Ground.{IsGround};
-ghost use Rattle.ac_profile.specs.Profile.{IsProfile};
-ghost use Rattle.ac_vcg.specs.Refusals.{or_else, size_refusal, depth_refusal, refusal_of, first_refusal, total_size, total_refusal, sizes_refusal, number_refusal, IsRefusal};
+ghost use Rattle.ac_profile.specs.Measure.{IsMeasure};
+ghost use Rattle.ac_vcg.specs.Refusals.{or_else, size_refusal, depth_refusal, refusal_of_one, first_refusal, total_size, total_refusal, sizes_refusal, number_refusal, IsAnswered};
 ghost use Rattle.ac_vcg.specs.Stands.{IsFor, AreFound};
 
 use crate::fault::VcgFault;
@@ -16,7 +20,7 @@ use crate::found::Found;
 use crate::one_target::{Ground, conditions_at};
 use ac_logic::Annotation;
 use ac_policy::Policy;
-use ac_profile::Profile;
+use ac_profile::Measure;
 use ac_tree::{LimitKind, Pair, Program, Target};
 use std::alloc::Global;
 
@@ -33,7 +37,7 @@ pub fn check_count(count: u64) -> Result<(), VcgFault>
 }
 
 /// Why a condition of this size and depth is refused.
-fn fault_of(pair: Pair, size: u64, depth: u64) -> Option<VcgFault>
+fn refusal_by(pair: Pair, size: u64, depth: u64) -> Option<VcgFault>
     ensures { result ≡ or_else (size_refusal pair size) (depth_refusal pair depth) }
 {
     let largest = LimitKind::Size.number();
@@ -54,25 +58,41 @@ fn fault_of(pair: Pair, size: u64, depth: u64) -> Option<VcgFault>
 }
 
 /// Why a condition is refused, by what is measured of it.
-fn fault_in(found: &Found<Profile>) -> Option<VcgFault>
-    ensures { (name : AnyName) (c : AnyCondition) → IsFor IsProfile name found.now c → result ≡ refusal_of c }
+fn refusal_in(found: &Found<Measure>) -> Option<VcgFault>
+    ensures { (name : AnyName) (c : AnyCondition) → IsFor IsMeasure name found.now c → result ≡ refusal_of_one c }
 {
-    fault_of(found.pair, found.goal.size(), found.goal.depth())
+    match &found.goal {
+        Measure::TooLarge => Some(VcgFault::Size {
+            pair: found.pair,
+            value: LimitKind::Size.number(),
+        }),
+        Measure::Known(profile) => refusal_by(found.pair, profile.size(), profile.depth()),
+    }
+}
+
+/// The size of a formula within the limit.
+fn size_in(measure: &Measure) -> u64
+    ensures { (f : AnyFormula) → IsMeasure measure.now f → size_of f ≤ limit_of kind.Size → result ≡ saturated (size_of f) }
+{
+    match measure {
+        Measure::TooLarge => 0,
+        Measure::Known(profile) => profile.size(),
+    }
 }
 
 /// Why the first of the conditions of a target is refused that is; they come with the last first. Where none is, their sizes
 /// are added up.
-fn first_fault(found: Vec<Found<Profile>>, total: &mut u64) -> Option<VcgFault>
-    ensures fault { (name : AnyName) (cs : List AnyCondition) → AreFound IsProfile name found.items cs → result ≡ first_refusal cs }
-    ensures total { (name : AnyName) (cs : List AnyCondition) → AreFound IsProfile name found.items cs → result ≡ None → saturated total.new ≡ saturated (total.old + total_size cs) }
+fn first_refused(found: Vec<Found<Measure>>, total: &mut u64) -> Option<VcgFault>
+    ensures fault { (name : AnyName) (cs : List AnyCondition) → AreFound IsMeasure name found.items cs → result ≡ first_refusal cs }
+    ensures total { (name : AnyName) (cs : List AnyCondition) → AreFound IsMeasure name found.items cs → result ≡ None → saturated total.new ≡ saturated (total.old + total_size cs) }
 {
     let mut found = found;
     while let Some(last) = found.pop() {
-        let fault = fault_in(&last);
-        if fault.is_some() {
-            return fault;
+        let refusal = refusal_in(&last);
+        if refusal.is_some() {
+            return refusal;
         }
-        *total = total.saturating_add(last.goal.size());
+        *total = total.saturating_add(size_in(&last.goal));
     }
     None
 }
@@ -100,13 +120,13 @@ pub fn check_sizes<P: Policy>(
 ) -> Result<(), VcgFault>
     requires { IsGround program.now ground.now }
     ensures within { OnOk result ((name : AnyName) → sizes_refusal (at_each (conditions_of program.now name (part_of (P.need_of policy.now program.now) (P.effect_of policy.now program.now) (P.known_of policy.now) annotations.now)) targets.now) ≡ None) }
-    ensures fault { IfErr result (λ f. (name : AnyName) → IsRefusal (sizes_refusal (at_each (conditions_of program.now name (part_of (P.need_of policy.now program.now) (P.effect_of policy.now program.now) (P.known_of policy.now) annotations.now)) targets.now)) f) }
+    ensures fault { IfErr result (λ f. (name : AnyName) → IsAnswered (sizes_refusal (at_each (conditions_of program.now name (part_of (P.need_of policy.now program.now) (P.effect_of policy.now program.now) (P.known_of policy.now) annotations.now)) targets.now)) f) }
 {
     let mut total = 0;
     for target in targets {
         let found = conditions_at(alloc, program, policy, annotations, ground, target)?;
-        if let Some(fault) = first_fault(found, &mut total) {
-            return Err(fault);
+        if let Some(refusal) = first_refused(found, &mut total) {
+            return Err(refusal);
         }
     }
     check_total(total)

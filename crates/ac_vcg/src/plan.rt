@@ -1,11 +1,13 @@
 //! How many conditions a program has, and at which targets.
-ghost use Rattle.std.specs.Prelude.{◌≡◌, ℕ, List, ◌||◌, length, map, IfOk, OnOk};
+ghost use Rattle.std.specs.Prelude.{◌≡◌, ℕ, List, ◌||◌, length, IfOk, OnOk};
+ghost use Rattle.ac_tree.specs.declared.limit.LimitKind.TheVariants as kind;
+ghost use Rattle.ac_tree.specs.declared.path.Pair.{Pair as AnyPair};
 ghost use Rattle.ac_tree.specs.declared.path.Target.{Target as AnyTarget};
 ghost use Rattle.ac_tree.specs.declared.policy.PolicyName.{PolicyName as AnyName};
 ghost use Rattle.ac_flow.specs.Cuts.{has_barrier, has_place, is_after as is_behind_place};
 ghost use Rattle.ac_flow.specs.Marks.{mark_at};
+ghost use Rattle.ac_flow.specs.Pairs.{is_subject};
 ghost use Rattle.ac_logic.specs.declared.condition.Condition.{Condition as AnyCondition};
-ghost use Rattle.ac_logic.specs.Size.{saturated};
 ghost use Rattle.ac_policy.specs.Sites.{sites_of};
 ghost use Rattle.ac_conditions.specs.AllConditions.{at_each, all_conditions as every_condition};
 ghost use Rattle.ac_conditions.specs.Conditions.{conditions_at as conditions_of};
@@ -14,23 +16,23 @@ ghost use Rattle.ac_conditions.specs.Part.{part_of, places_of};
 ghost use Rattle.ac_conditions.specs.Targets.{list_targets};
 ghost use Rattle.ac_vcg.specs.Ground.{IsGround};
 ghost use Rattle.ac_targets.specs.Numbered.{IsInOrder};
-ghost use Rattle.ac_preconditions.specs.Outside.{node_of as target_node};
+ghost use Rattle.ac_pair_count.specs.PairCount.{target_node as node_of_target, aimed_nodes};
 ghost use Rattle.ac_vcg.specs.Plan.{IsPlan, IsKept, AreReached};
+ghost use Rattle.ac_vcg.specs.Refusals.{is_above};
 ghost use Rattle.ac_vcg.specs.Stands.{AreFound};
 
 use crate::found::Found;
 use crate::one_target::{Ground, conditions_at};
 use ac_flow::marks::{is_marked, mark_nodes};
-use ac_flow::pairs;
 use ac_logic::Annotation;
+use ac_pair_count::{count_pairs, target_node};
 use ac_policy::{Policy, sites};
-use ac_preconditions::aim::node_of;
 use ac_profile::Reached;
 use ac_targets::targets;
-use ac_tree::{Cut, NodeId, Pair, Place, Program, Target};
+use ac_tree::{Cut, LimitKind, NodeId, Place, Program, Target};
 use std::alloc::{AllocError, Global};
 
-/// How many conditions there are, and every target that has one.
+/// How many conditions there are, as far as their limit asks, and every target that has one.
 #[derive(Drop)]
 pub struct Plan {
     pub count: u64,
@@ -72,10 +74,10 @@ fn plan_by_flow<P: Policy>(
 {
     let cuts = barriers(alloc, annotations)?;
     let subject = subjects(alloc, program, policy)?;
-    let pairs = pairs(alloc, program, cuts.as_slice(), subject.as_slice())?;
-    let targets = reached(alloc, all, pairs.as_slice())?;
+    let found = count_pairs(alloc, program, cuts.as_slice(), subject.as_slice())?;
+    let targets = reached(alloc, all, found.nodes.as_slice())?;
     Ok(Plan {
-        count: pairs.len() as u64,
+        count: found.count,
         targets,
     })
 }
@@ -123,12 +125,11 @@ fn subjects<P: Policy>(
     Ok(nodes)
 }
 
-/// The targets at nodes at which some of the pairs aim.
-fn reached(alloc: Global, all: &[Target], pairs: &[Pair]) -> Result<Vec<Target>, AllocError>
-    ensures { IfOk result (λ kept. (at : AnyTarget → List AnyCondition) → AreReached at all.now pairs.now → at_each at kept.items ≡ at_each at all.now) }
+/// The targets at some nodes.
+fn reached(alloc: Global, all: &[Target], nodes: &[NodeId]) -> Result<Vec<Target>, AllocError>
+    ensures { IfOk result (λ kept. (at : AnyTarget → List AnyCondition) (pairs : List AnyPair) → ((n : ℕ) → is_subject nodes.now n ≡ is_subject (aimed_nodes pairs) n) → AreReached at all.now pairs → at_each at kept.items ≡ at_each at all.now) }
 {
-    let nodes = aimed(alloc, pairs)?;
-    let marks = mark_nodes(alloc, nodes.as_slice())?;
+    let marks = mark_nodes(alloc, nodes)?;
     let mut kept = Vec::new(alloc);
     for target in all {
         keep(marks.as_slice(), target, &mut kept)?;
@@ -138,7 +139,7 @@ fn reached(alloc: Global, all: &[Target], pairs: &[Pair]) -> Result<Vec<Target>,
 
 /// Keeps a target, where its node is marked.
 fn keep(marks: &[bool], target: &Target, kept: &mut Vec<Target>) -> Result<(), AllocError>
-    ensures { OnOk result (IsKept (mark_at marks.now (target_node target.now).0) target.now kept.old.items kept.new.items) }
+    ensures { OnOk result (IsKept (mark_at marks.now (node_of_target target.now).0) target.now kept.old.items kept.new.items) }
 {
     if !is_aimed(marks, target) {
         return Ok(());
@@ -149,23 +150,12 @@ fn keep(marks: &[bool], target: &Target, kept: &mut Vec<Target>) -> Result<(), A
 
 /// Whether the node of a target is marked.
 fn is_aimed(marks: &[bool], target: &Target) -> bool
-    ensures { result ≡ mark_at marks.now (target_node target.now).0 }
+    ensures { result ≡ mark_at marks.now (node_of_target target.now).0 }
 {
-    is_marked(marks, node_of(*target))
+    is_marked(marks, target_node(*target))
 }
 
-/// The nodes at which some pairs aim.
-fn aimed(alloc: Global, pairs: &[Pair]) -> Result<Vec<NodeId>, AllocError>
-    ensures { IfOk result (λ nodes. nodes.items ≡ map (λ x. target_node x.target) pairs.now) }
-{
-    let mut nodes = Vec::new(alloc);
-    for pair in pairs {
-        nodes.push(node_of(pair.target))?;
-    }
-    Ok(nodes)
-}
-
-/// The number of conditions of some targets, or the largest u64 where there are more.
+/// How many conditions some targets have, as far as the limit asks: no target is looked at beyond it.
 fn count_all<P: Policy>(
     alloc: Global,
     program: &Program,
@@ -175,8 +165,9 @@ fn count_all<P: Policy>(
     targets: &[Target],
 ) -> Result<u64, AllocError>
     requires { IsGround program.now ground.now }
-    ensures { IfOk result (λ count. (name : AnyName) → saturated count ≡ saturated (length (at_each (conditions_of program.now name (part_of (P.need_of policy.now program.now) (P.effect_of policy.now program.now) (P.known_of policy.now) annotations.now)) targets.now))) }
+    ensures { IfOk result (λ count. (name : AnyName) → is_above kind.Conditions count ≡ is_above kind.Conditions (length (at_each (conditions_of program.now name (part_of (P.need_of policy.now program.now) (P.effect_of policy.now program.now) (P.known_of policy.now) annotations.now)) targets.now))) }
 {
+    let most = LimitKind::Conditions.number();
     let mut count: u64 = 0;
     for target in targets {
         let found: Vec<Found<Reached>> = conditions_at(
@@ -188,6 +179,9 @@ fn count_all<P: Policy>(
             target,
         )?;
         count = count.saturating_add(found.len() as u64);
+        if count > most {
+            return Ok(count);
+        }
     }
     Ok(count)
 }

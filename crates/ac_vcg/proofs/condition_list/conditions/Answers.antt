@@ -5,7 +5,7 @@ use Rattle.ac_logic.specs.declared.condition.Condition.{Condition}
 use Rattle.ac_conditions.specs.AllConditions.{at_each, all_conditions}
 use Rattle.ac_conditions.specs.Conditions.{conditions_at}
 use Rattle.ac_conditions.specs.Part.{part_of}
-use Rattle.ac_vcg.specs.Refusals.{sizes_refusal, IsRefusal}
+use Rattle.ac_vcg.specs.Refusals.{sizes_refusal, IsAnswered}
 use Rattle.ac_vcg.proofs.Measured.{count_refused, sizes_refused}
 use Rattle.ac_vcg.proofs.condition_list.conditions.Goals as goal
 
@@ -27,4 +27,4 @@ returns-in_err-check_sizes-clause-fault g c =
     let e = err_from_is_err_and c.from_residual-in_err-check_sizes.result c.from_residual-in_err-check_sizes.ensures.1 in
     rw (e.1, e.2)
     (sizes_refused all c.in_ok-plan.plan.count planned.count _ c.in_ok-check_count.ensures.within
-    (subst (λ (cs : List Condition). IsRefusal (sizes_refusal cs) c.in_err-check_sizes.field-0.0) (ap (λ (ts : List Target). at_each (conditions_at p c.args.name part) ts) c.as_slice-targets.ensures.value ∙ planned.targets) (c.in_err-check_sizes.ensures.fault c.args.name)))
+    (subst (λ (cs : List Condition). IsAnswered (sizes_refusal cs) c.in_err-check_sizes.field-0.0) (ap (λ (ts : List Target). at_each (conditions_at p c.args.name part) ts) c.as_slice-targets.ensures.value ∙ planned.targets) (c.in_err-check_sizes.ensures.fault c.args.name)))

@@ -17,9 +17,9 @@ loop-target-preserved g c = λ name.
     let i = c.loop-target.target-index in
     let low : i < length ts = first_of (search rules, omega (arith, c.loop-target-test.true)) in
     let inv = c.loop-target.invariant name in
-    let none : c.first_fault.result ≡ None = search rules in (
-      refusals_next at (at_each at ts) _ _ ts i c.first_fault.result (c.first_fault.ensures.fault name _ (c.in_ok-found.ensures name)) refl low inv.0 ∙ ap (λ (o : Option VcgFault). or_else o (first_refusal (at_each at (drop (i + 1) ts)))) none,
-      sizes_next at _ _ ts i c.loop-target.total c.first_fault.new.total _ (c.first_fault.ensures.total name _ (c.in_ok-found.ensures name) none) refl low inv.1,
+    let none : c.first_refused.result ≡ None = search rules in (
+      refusals_next at (at_each at ts) _ _ ts i c.first_refused.result (c.first_refused.ensures.fault name _ (c.in_ok-found.ensures name)) refl low inv.0 ∙ ap (λ (o : Option VcgFault). or_else o (first_refusal (at_each at (drop (i + 1) ts)))) none,
+      sizes_next at _ _ ts i c.loop-target.total c.first_refused.new.total _ (c.first_refused.ensures.total name _ (c.in_ok-found.ensures name) none) refl low inv.1,
     )
 
 pub returns-in-Some-clause-fault : goal.returns-in-Some-clause-fault
@@ -31,5 +31,5 @@ returns-in-Some-clause-fault g c = λ name.
     let i = c.loop-target.target-index in
     let low : i < length ts = first_of (search rules, omega (arith, c.loop-target-test.true)) in
     let inv = c.loop-target.invariant name in
-    inr (first_told (at_each at ts) c.first_fault.result (first_refusal (at_each at (drop (i + 1) ts))) c.in-Some.fault
-    (refusals_next at (at_each at ts) _ _ ts i c.first_fault.result (c.first_fault.ensures.fault name _ (c.in_ok-found.ensures name)) refl low inv.0) c.in-Some.is)
+    inr (first_told (at_each at ts) c.first_refused.result (first_refusal (at_each at (drop (i + 1) ts))) c.in-Some.refusal
+    (refusals_next at (at_each at ts) _ _ ts i c.first_refused.result (c.first_refused.ensures.fault name _ (c.in_ok-found.ensures name)) refl low inv.0) c.in-Some.is)
