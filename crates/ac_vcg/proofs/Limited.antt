@@ -1,11 +1,9 @@
 -- Numbers that are told up to the largest u64 pass a limit where the numbers do.
-use Rattle.std.proofs.Common.{◌≡◌, ℕ, ◌+◌, ◌-◌, ◌^◌, ◌<◌, ◌≤◌, min, nat_lt, Bool, true, false, Option, Some, None, ◌⊎◌, inl, inr, refl, sym, ◌∙◌, ap, arith}
+use Rattle.std.proofs.Common.{◌≡◌, ℕ, ◌+◌, ◌-◌, ◌^◌, ◌<◌, ◌≤◌, min, nat_lt, true, false, ◌⊎◌, inl, inr, sym, ◌∙◌, ap, arith}
 use Rattle.std.proofs.lemmas.Bool.Decides.{nat_tests}
-use Rattle.ac_tree.specs.declared.limit.LimitKind.{LimitKind}
 use Rattle.ac_tree.specs.declared.limit.LimitKind.TheVariants as kind
 use Rattle.ac_tree.specs.declared.path.Pair.{Pair}
 use Rattle.ac_logic.specs.Size.{saturated}
-use Rattle.ac_vcg.specs.declared.fault.VcgFault.{VcgFault}
 use Rattle.ac_vcg.specs.declared.fault.VcgFault.TheVariants as fault
 use Rattle.ac_vcg.specs.Refusals.{is_above, refusal_if, size_refusal, depth_refusal, total_refusal, number_refusal}
 

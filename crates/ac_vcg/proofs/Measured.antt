@@ -1,6 +1,6 @@
 -- What is measured of conditions, taken from the last found to the first.
 use Rattle.std.proofs.lemmas.Bool.Decides.{nat_tests}
-use Rattle.std.proofs.Common.{◌≡◌, ℕ, ◌+◌, ◌-◌, ◌^◌, ◌<◌, ◌≤◌, min, nat_lt, Bool, true, false, Option, Some, None, is_some, List, [], ◌∷◌, ◌++◌, length, inl, inr, refl, sym, ◌∙◌, ap, subst, arith}
+use Rattle.std.proofs.Common.{◌≡◌, ℕ, ◌+◌, ◌-◌, ◌^◌, ◌<◌, ◌≤◌, min, nat_lt, Bool, true, false, Option, Some, None, is_some, List, [], ◌∷◌, ◌++◌, length, inl, inr, refl, sym, ◌∙◌, ap, arith}
 use Rattle.ac_tree.specs.declared.limit.LimitKind.TheVariants as kind
 use Rattle.ac_tree.specs.declared.path.Pair.{Pair}
 use Rattle.ac_tree.specs.declared.policy.PolicyName.{PolicyName}
@@ -35,8 +35,9 @@ refused_by name x p c s d r g h k l e =
     e ∙ (here ∙ ap (λ (p : Pair). or_else (size_refusal p (size_of c.formula)) (depth_refusal p (depth_of c.formula))) (sym h.1))
 
 -- what is known to be too large is refused for its size
-pub refused_large : (name : PolicyName) (x : Found Measure) (c : Condition) (pair : Pair) → x.goal ≡ TooLarge → pair ≡ x.pair → IsFor IsMeasure name x c → Some (fault.Size pair 200000) ≡ refusal_of_one c
-refused_large name x c pair g p h =
+pub refused_large : (name : PolicyName) (x : Found Measure) (c : Condition) (pair : Pair) (largest : ℕ) → x.goal ≡ TooLarge → pair ≡ x.pair → largest ≡ 200000 → IsFor IsMeasure name x c → Some (fault.Size pair largest) ≡ refusal_of_one c
+refused_large name x c pair largest g p l h =
+    ap (λ n. let o : Option VcgFault = Some (fault.Size pair n) in o) l ∙
     ap (λ (q : Pair). let o : Option VcgFault = Some (fault.Size q 200000) in o) (p ∙ sym h.1) ∙ sym (ap (λ b. or_else (refusal_if b (fault.Size c.pair 200000)) (depth_refusal c.pair (depth_of c.formula))) (above (size_of c.formula) (still_large x.goal c.formula g h.2)))
   where
     above : (n : ℕ) → 200000 < n → nat_lt 200000 n ≡ true

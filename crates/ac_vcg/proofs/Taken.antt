@@ -6,7 +6,7 @@ use Rattle.ac_tree.specs.declared.path.Target.{Target}
 use Rattle.ac_tree.specs.declared.policy.PolicyName.{PolicyName}
 use Rattle.ac_logic.specs.declared.condition.Condition.{Condition}
 use Rattle.ac_logic.specs.declared.formula.Formula.{Formula}
-use Rattle.ac_logic.specs.Size.{size_of, saturated}
+use Rattle.ac_logic.specs.Size.{saturated}
 use Rattle.ac_conditions.specs.AllConditions.{at_each}
 use Rattle.ac_vcg.specs.declared.fault.VcgFault.{VcgFault}
 use Rattle.ac_vcg.specs.declared.found.Found.{Found}

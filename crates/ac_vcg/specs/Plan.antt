@@ -1,5 +1,5 @@
 -- No promise rests on this file: it says what is known of conditions before they are made.
-use Rattle.std.specs.Prelude.{◌≡◌, ℕ, Bool, true, false, List, [], ◌∷◌, ◌++◌, map, length}
+use Rattle.std.specs.Prelude.{◌≡◌, Bool, true, false, List, [], ◌∷◌, ◌++◌, map, length}
 use Rattle.ac_tree.specs.declared.limit.LimitKind.TheVariants as kind
 use Rattle.ac_tree.specs.declared.path.Pair.{Pair}
 use Rattle.ac_tree.specs.declared.path.Target.{Target}

@@ -14,6 +14,14 @@ loop-last-preserved c = λ name cs h.
     let inv = c.loop-last.invariant name cs h in
     goes_on name c.loop-last.found.items left x c.refusal_in-refusal.result popped (λ d. c.refusal_in-refusal.ensures name d) cs inv.0 inv.1 inv.2 _ _ _ _ (search rules) c.size_in.ensures (search rules) inv.3
 
+pub loop-last-preserved-else-is_some : goal.loop-last-preserved-else-is_some
+loop-last-preserved-else-is_some c = λ name cs h.
+    let left = c.pop.new.self.items in
+    let x = c.in-Some.last in
+    let popped : c.loop-last.found.items ≡ left ++ x ∷ [] = c.in-Some.ensures.items in
+    let inv = c.loop-last.invariant name cs h in
+    goes_on name c.loop-last.found.items left x c.refusal_in-refusal.result popped (λ d. c.refusal_in-refusal.ensures name d) cs inv.0 inv.1 inv.2 _ _ _ _ (search rules) c.size_in.ensures (search rules) inv.3
+
 pub returns-then-is_some-clause-fault : goal.returns-then-is_some-clause-fault
 returns-then-is_some-clause-fault c = λ name cs h.
     let left = c.pop.new.self.items in

@@ -1,4 +1,4 @@
-use Rattle.std.proofs.Common.{◌≡◌, ◌<◌, ◌≤◌, [], List, drop, get_or, length, ap, ◌∙◌, rules, arith}
+use Rattle.std.proofs.Common.{◌≡◌, ◌<◌, ◌≤◌, List, drop, get_or, length, rules, arith}
 use Rattle.std.proofs.lemmas.List.{at_drop_all}
 use Rattle.ac_logic.specs.declared.condition.Annotation.{Annotation}
 use Rattle.ac_vcg.proofs.Barred.{barriers_next, barriers_all}
