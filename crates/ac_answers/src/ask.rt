@@ -1,7 +1,7 @@
 //! What a line asks for.
 use ac_answers_language::{flow, programs, runs};
 use ac_answers_logic::{differences, formulas, ground_forms, linear, proof_trees};
-use ac_answers_policies::policies;
+use ac_answers_policies::{condition_lists, parts, policies};
 use ac_asks::{Answer, text_at};
 use serde_json::{Value, json};
 use std::alloc::{AllocError, Global};
@@ -48,6 +48,8 @@ fn answer_of(alloc: Global, ask: &Value) -> Answer {
         "need" => policies::need(alloc, ask),
         "effect" => policies::effect(alloc, ask),
         "known" => policies::known(alloc, ask),
+        "conditions" => condition_lists::conditions(alloc, ask),
+        "verify_part" => parts::verify_part(alloc, ask),
         _ => Ok(None),
     }
 }

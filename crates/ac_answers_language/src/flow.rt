@@ -1,4 +1,7 @@
 //! Asks about control flow.
+ghost use Rattle.std.specs.Prelude.{IfOk, IfSome};
+ghost use Rattle.ac_tree.specs.StaticRules.{KeepsStaticRules};
+
 use ac_asks::{Answer, list_at, text_at, told};
 use ac_parse::ParseFault;
 use ac_tree::{Cut, NodeId, Pair, Place, Program, Target};
@@ -97,7 +100,8 @@ fn pair_at(ask: &Value) -> Option<Pair> {
     }
 }
 
-fn cut_of(value: &Value) -> Option<Cut> {
+/// The cut that a word and a node are.
+pub fn cut_of(value: &Value) -> Option<Cut> {
     let (word, node) = word_and_node(value)?;
     match word {
         "start" => Some(Cut::Start),
@@ -108,7 +112,8 @@ fn cut_of(value: &Value) -> Option<Cut> {
     }
 }
 
-fn target_of(value: &Value) -> Option<Target> {
+/// The target that a word and a node are.
+pub fn target_of(value: &Value) -> Option<Target> {
     let (word, node) = word_and_node(value)?;
     match word {
         "entry" => Some(Target::Entry(node)),
@@ -153,7 +158,9 @@ fn cuts_at(
 }
 
 /// The program that a text is; none where it is none, or one that breaks a static rule.
-pub fn program(alloc: Global, text: &str) -> Result<Option<Program>, AllocError> {
+pub fn program(alloc: Global, text: &str) -> Result<Option<Program>, AllocError>
+    ensures { IfOk result (λ found. IfSome found KeepsStaticRules) }
+{
     match ac_parse::parse(alloc, text.as_bytes()) {
         Ok(program) => Ok(sound(program)),
         Err(ParseFault::OutOfMemory) => Err(AllocError),
@@ -162,7 +169,9 @@ pub fn program(alloc: Global, text: &str) -> Result<Option<Program>, AllocError>
 }
 
 /// The program, where it breaks no static rule.
-fn sound(program: Program) -> Option<Program> {
+fn sound(program: Program) -> Option<Program>
+    ensures { IfSome result KeepsStaticRules }
+{
     if ac_tree::check_static(&program).is_ok() {
         return Some(program);
     }
@@ -183,6 +192,11 @@ fn places_of(alloc: Global, values: &[Value]) -> Result<Option<Vec<Place>>, Allo
 
 fn place_of(value: &Value) -> Option<Place> {
     let (word, node) = word_and_node(value)?;
+    place_at(word, node)
+}
+
+/// The place that a word names at a node.
+pub fn place_at(word: &str, node: NodeId) -> Option<Place> {
     match word {
         "loop" => Some(Place::Loop(node)),
         "after" => Some(Place::After(node)),
@@ -217,14 +231,16 @@ fn nodes_of(alloc: Global, values: &[Value]) -> Result<Option<Vec<NodeId>>, Allo
     Ok(Some(nodes))
 }
 
-fn pair_value(alloc: Global, pair: Pair) -> Result<Value, AllocError> {
+/// A pair as the list of its cut and its target.
+pub fn pair_value(alloc: Global, pair: Pair) -> Result<Value, AllocError> {
     let mut list = Vec::new(alloc);
     list.push(cut_value(alloc, pair.cut)?)?;
     list.push(target_value(alloc, pair.target)?)?;
     Ok(Value::Array(list))
 }
 
-fn cut_value(alloc: Global, cut: Cut) -> Result<Value, AllocError> {
+/// A cut as its word and its node.
+pub fn cut_value(alloc: Global, cut: Cut) -> Result<Value, AllocError> {
     match cut {
         Cut::Start => placed(alloc, "start", NodeId(0)),
         Cut::Head(node) => placed(alloc, "head", node),
@@ -233,7 +249,8 @@ fn cut_value(alloc: Global, cut: Cut) -> Result<Value, AllocError> {
     }
 }
 
-fn target_value(alloc: Global, target: Target) -> Result<Value, AllocError> {
+/// A target as its word and its node.
+pub fn target_value(alloc: Global, target: Target) -> Result<Value, AllocError> {
     match target {
         Target::Entry(node) => placed(alloc, "entry", node),
         Target::Keep(node) => placed(alloc, "keep", node),

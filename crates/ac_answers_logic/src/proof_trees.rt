@@ -2,7 +2,7 @@
 use crate::formulas::{formula, formula_at, term};
 use ac_asks::{Answer, list_at, number_of, numbers_of, text_at};
 use ac_logic::Formula;
-use ac_proof::{CheckFault, ProofTree, Rule, RuleName, StepPath};
+use ac_proof::{CheckFault, ProofTree, Rule, RuleName};
 use ac_shared::Shared;
 use serde_json::{Value, json};
 use sqlite_items::Items;
@@ -26,7 +26,7 @@ pub fn check_proof(alloc: Global, ask: &Value) -> Answer {
     match ac_proof::check_proof(alloc, hypotheses.as_slice(), &tree) {
         Ok(()) => Ok(Some(json!(in alloc; {"ok": true})?)),
         Err(CheckFault::Step(at)) => {
-            let path = path_list(alloc, &at)?;
+            let path = path_list(alloc, at.path.as_slice())?;
             Ok(Some(json!(in alloc; {"step": path})?))
         }
         Err(CheckFault::OutOfMemory) => Err(anyhow::Error::from(AllocError)),
@@ -47,9 +47,10 @@ fn formulas_of(alloc: Global, texts: &[Value]) -> Result<Option<Vec<Shared<Formu
     Ok(Some(formulas))
 }
 
-fn path_list(alloc: Global, at: &StepPath) -> Result<Vec<Value>, AllocError> {
+/// The places of a path as a list.
+pub fn path_list(alloc: Global, path: &[u32]) -> Result<Vec<Value>, AllocError> {
     let mut list = Vec::new(alloc);
-    for place in at.path.as_slice().iter() {
+    for place in path.iter() {
         list.push(Value::from(*place))?;
     }
     Ok(list)
@@ -74,7 +75,7 @@ fn proof(alloc: Global, asked: &Value, levels: u64) -> anyhow::Result<Option<Pro
 }
 
 /// The step of a proof behind its premises.
-fn last_step(
+pub fn last_step(
     alloc: Global,
     asked: &Value,
     premises: Items<ProofTree>,

@@ -1,4 +1,7 @@
 //! Asks about sites and what policies say of them.
+ghost use Rattle.std.specs.Prelude.{IfOk, IfSome};
+ghost use Rattle.ac_tree.specs.StaticRules.{KeepsStaticRules};
+
 use ac_answers_language::flow::{node_of, program};
 use ac_asks::{Answer, list_at, text_at};
 use ac_formula_printer::{print_formula, print_term};
@@ -67,7 +70,10 @@ pub fn known(alloc: Global, ask: &Value) -> Answer {
     printed(alloc, policy.known(alloc, &name)?)
 }
 
-fn program_at(alloc: Global, ask: &Value) -> Result<Option<Program>, AllocError> {
+/// The program of an ask.
+pub fn program_at(alloc: Global, ask: &Value) -> Result<Option<Program>, AllocError>
+    ensures { IfOk result (λ found. IfSome found KeepsStaticRules) }
+{
     match text_at(ask, "program") {
         Some(text) => program(alloc, text),
         None => Ok(None),
@@ -79,7 +85,7 @@ fn node_at(ask: &Value) -> Option<NodeId> {
 }
 
 /// The policy of an ask, with the roles that stand there.
-fn policy_at(alloc: Global, ask: &Value) -> Result<Option<AnyPolicy>, AllocError> {
+pub fn policy_at(alloc: Global, ask: &Value) -> Result<Option<AnyPolicy>, AllocError> {
     match text_at(ask, "policy") {
         Some("init") => Ok(Some(AnyPolicy::Init)),
         Some("bounds") => Ok(Some(AnyPolicy::Bounds)),

@@ -44,7 +44,7 @@ use Rattle.ac_conditions.specs.Preconditions.{joined, past_barrier, element_writ
 use Rattle.ac_conditions.specs.Ranges.{ranges}
 use Rattle.ac_conditions.specs.Tests.{labelled, formula_of}
 use Rattle.ac_labels.proofs.ByTarget.{of_all}
-use Rattle.ac_labels.specs.GoalLabels.{goal_label}
+use Rattle.ac_labels.specs.TargetLabels.{target_label}
 use Rattle.ac_labels.specs.Opened.{hidden, cond_shape, cond_child, formula_shape, formula_child}
 
 module _ (l : Label) where
@@ -97,7 +97,7 @@ module _ (l : Label) where
 
 module _ (p : Program) (q : PolicyName) (part : Part) (t : Target) where
   abbrev Aims : Option Formula → Type 0
-  Aims o = AimsIf (goal_label t) o
+  Aims o = AimsIf (target_label t) o
 
   site_aims : (s : Site) → Aims (site_goal part.need t s)
   site_aims s = by (is_site t s.node) refl (part.need s)
@@ -105,11 +105,11 @@ module _ (p : Program) (q : PolicyName) (part : Part) (t : Target) where
       by : (b : Bool) → is_site t s.node ≡ b → (o : Option Formula) → Aims (if b then labelled_need s.node o else None)
       by false e o = tt
       by true e None = tt
-      by true e (Some f) = labelled_aims (goal_label t) label.Need s.node f (ap goal_label (same_target t (target.Site s.node) e))
+      by true e (Some f) = labelled_aims (target_label t) label.Need s.node f (ap target_label (same_target t (target.Site s.node) e))
 
   sites_aim : (ss : List Site) → Aims (sites_goal part.need t ss)
   sites_aim [] = tt
-  sites_aim (s ∷ ss) = both_aim (goal_label t) (site_goal part.need t s) (sites_goal part.need t ss) (site_aims s) (sites_aim ss)
+  sites_aim (s ∷ ss) = both_aim (target_label t) (site_goal part.need t s) (sites_goal part.need t ss) (site_aims s) (sites_aim ss)
 
   cond_aims : (c : CondKind) → Aims (cond_goal part.need t p c)
   unfolding hidden cond_shape cond_child formula_shape formula_child
@@ -118,37 +118,37 @@ module _ (p : Program) (q : PolicyName) (part : Part) (t : Target) where
   cond_aims (cond.Rel op a b) = sites_aim (expr_sites p a.node.id a.kind ++ expr_sites p b.node.id b.kind)
   cond_aims (Negation n c) = cond_aims c
   cond_aims (Conjunction n c m d) =
-      both_aim (goal_label t) (cond_goal part.need t p c) (under label.Guard n.id (formula_of p c) (cond_goal part.need t p d)) (cond_aims c) (premise_aims (goal_label t) label.Guard n.id (formula_of p c) (cond_goal part.need t p d) (cond_aims d))
+      both_aim (target_label t) (cond_goal part.need t p c) (under label.Guard n.id (formula_of p c) (cond_goal part.need t p d)) (cond_aims c) (premise_aims (target_label t) label.Guard n.id (formula_of p c) (cond_goal part.need t p d) (cond_aims d))
   cond_aims (Disjunction n c m d) =
-      both_aim (goal_label t) (cond_goal part.need t p c) (under label.Guard n.id (Not (formula_of p c)) (cond_goal part.need t p d)) (cond_aims c) (premise_aims (goal_label t) label.Guard n.id (Not (formula_of p c)) (cond_goal part.need t p d) (cond_aims d))
+      both_aim (target_label t) (cond_goal part.need t p c) (under label.Guard n.id (Not (formula_of p c)) (cond_goal part.need t p d)) (cond_aims c) (premise_aims (target_label t) label.Guard n.id (Not (formula_of p c)) (cond_goal part.need t p d) (cond_aims d))
 
   entry_aims : (n : NodeId) (f : Formula) → Aims (goal_if (is_entry t n) (labelled label.Entry n f))
-  entry_aims n f = goal_aims (goal_label t) label.Entry n f (is_entry t n) (λ e. ap goal_label (same_target t (target.Entry n) e))
+  entry_aims n f = goal_aims (target_label t) label.Entry n f (is_entry t n) (λ e. ap target_label (same_target t (target.Entry n) e))
 
   keep_aims : (n : NodeId) (f : Formula) → Aims (goal_if (is_keep t n) (labelled label.Keep n f))
-  keep_aims n f = goal_aims (goal_label t) label.Keep n f (is_keep t n) (λ e. ap goal_label (same_target t (target.Keep n) e))
+  keep_aims n f = goal_aims (target_label t) label.Keep n f (is_keep t n) (λ e. ap target_label (same_target t (target.Keep n) e))
 
   past_aims : (n : NodeId) (fs : List Formula) (behind : Option Formula) → Aims behind → Aims (past_barrier t n fs behind)
   past_aims n [] behind h = h
-  past_aims n (f ∷ fs) behind h = goal_aims (goal_label t) label.Barrier n (joined (f ∷ fs)) (is_barrier t n) (λ e. ap goal_label (same_target t (target.Barrier n) e))
+  past_aims n (f ∷ fs) behind h = goal_aims (target_label t) label.Barrier n (joined (f ∷ fs)) (is_barrier t n) (λ e. ap target_label (same_target t (target.Barrier n) e))
 
   mutual
     stmt_aims : (n : NodeId) (st : StmtKind) (behind : Option Formula) → Aims behind → Aims (before p part t n st behind)
     stmt_aims n (Set x e) behind h =
-        both_aim (goal_label t) (set_goal p part t n x e) (before_changes n (scalar_changes p part n x (term_of p e.kind)) behind) (sites_aim (scalar_write n x ∷ expr_sites p e.node.id e.kind))
-        (change_aims (goal_label t) n (scalar_changes p part n x (term_of p e.kind)) behind h)
+        both_aim (target_label t) (set_goal p part t n x e) (before_changes n (scalar_changes p part n x (term_of p e.kind)) behind) (sites_aim (scalar_write n x ∷ expr_sites p e.node.id e.kind))
+        (change_aims (target_label t) n (scalar_changes p part n x (term_of p e.kind)) behind h)
     stmt_aims n (Put x i e) behind h =
-        both_aim (goal_label t) (put_goal p part t n x i e) (before_changes n (element_changes p part n x i (term_of p e.kind)) behind) (sites_aim (element_write p n x i ∷ (index_sites p i ++ expr_sites p e.node.id e.kind)))
-        (change_aims (goal_label t) n (element_changes p part n x i (term_of p e.kind)) behind h)
+        both_aim (target_label t) (put_goal p part t n x i e) (before_changes n (element_changes p part n x i (term_of p e.kind)) behind) (sites_aim (element_write p n x i ∷ (index_sites p i ++ expr_sites p e.node.id e.kind)))
+        (change_aims (target_label t) n (element_changes p part n x i (term_of p e.kind)) behind h)
     stmt_aims n (If' c i y j z) behind h =
         let yes_part : Option Formula = before_block p part t y behind in
         let no_part : Option Formula = before_block p part t z behind in
-        both_aim (goal_label t) (cond_goal part.need t p c.kind) (conjoined (under label.Test n (formula_of p c.kind) yes_part) (under label.Denied n (Not (formula_of p c.kind)) no_part)) (cond_aims c.kind)
-        (both_aim (goal_label t) (under label.Test n (formula_of p c.kind) yes_part) (under label.Denied n (Not (formula_of p c.kind)) no_part)
-        (premise_aims (goal_label t) label.Test n (formula_of p c.kind) yes_part (block_aims y behind h)) (premise_aims (goal_label t) label.Denied n (Not (formula_of p c.kind)) no_part (block_aims z behind h)))
-    stmt_aims n (For' x lo hi i body) behind h = both_aim (goal_label t) (ends_goal p part t lo hi) (for_entry p part t n x lo) (sites_aim (expr_sites p lo.node.id lo.kind ++ expr_sites p hi.node.id hi.kind)) (entry_aims n _)
+        both_aim (target_label t) (cond_goal part.need t p c.kind) (conjoined (under label.Test n (formula_of p c.kind) yes_part) (under label.Denied n (Not (formula_of p c.kind)) no_part)) (cond_aims c.kind)
+        (both_aim (target_label t) (under label.Test n (formula_of p c.kind) yes_part) (under label.Denied n (Not (formula_of p c.kind)) no_part)
+        (premise_aims (target_label t) label.Test n (formula_of p c.kind) yes_part (block_aims y behind h)) (premise_aims (target_label t) label.Denied n (Not (formula_of p c.kind)) no_part (block_aims z behind h)))
+    stmt_aims n (For' x lo hi i body) behind h = both_aim (target_label t) (ends_goal p part t lo hi) (for_entry p part t n x lo) (sites_aim (expr_sites p lo.node.id lo.kind ++ expr_sites p hi.node.id hi.kind)) (entry_aims n _)
     stmt_aims n (While' c i body) behind h = entry_aims n _
-    stmt_aims n (Hand x role) behind h = both_aim (goal_label t) (site_goal part.need t (role_use p n x role)) behind (site_aims (role_use p n x role)) h
+    stmt_aims n (Hand x role) behind h = both_aim (target_label t) (site_goal part.need t (role_use p n x role)) behind (site_aims (role_use p n x role)) h
     stmt_aims n Skip behind h = h
 
     block_aims : {k : _} (row : Row_of-Stmt k) (behind : Option Formula) → Aims behind → Aims (before_block p part t row behind)
@@ -162,16 +162,16 @@ module _ (p : Program) (q : PolicyName) (part : Part) (t : Target) where
       stmt_aims st.node.id st.kind (past_barrier t st.node.id (part.behind st.node.id) (before_list p part t sts None)) (past_aims st.node.id (part.behind st.node.id) (before_list p part t sts None) (list_aims sts))
 
   for_aims : {k : _} (n : NodeId) (x : NameBytes) (hi : Expr) (body : Row_of-Stmt k) → Aims (for_head p part t n x hi body)
-  for_aims n x hi body = premise_aims (goal_label t) label.Test n _ (before_block p part t body (for_keep p part t n x)) (block_aims body (for_keep p part t n x) (keep_aims n _))
+  for_aims n x hi body = premise_aims (target_label t) label.Test n _ (before_block p part t body (for_keep p part t n x)) (block_aims body (for_keep p part t n x) (keep_aims n _))
 
   while_aims : {k : _} (n : NodeId) (test : Cond) (body : Row_of-Stmt k) → Aims (while_head p part t n test body)
   while_aims n test body =
-      both_aim (goal_label t) (cond_goal part.need t p test.kind) (under label.Test n (formula_of p test.kind) (before_block p part t body (while_keep p part t n))) (cond_aims test.kind)
-      (premise_aims (goal_label t) label.Test n (formula_of p test.kind) (before_block p part t body (while_keep p part t n)) (block_aims body (while_keep p part t n) (keep_aims n _)))
+      both_aim (target_label t) (cond_goal part.need t p test.kind) (under label.Test n (formula_of p test.kind) (before_block p part t body (while_keep p part t n))) (cond_aims test.kind)
+      (premise_aims (target_label t) label.Test n (formula_of p test.kind) (before_block p part t body (while_keep p part t n)) (block_aims body (while_keep p part t n) (keep_aims n _)))
 
   -- the conditions
   abbrev AllAim : List Condition → Type 0
-  AllAim cs = AllByRecursion (λ (x : Condition). AimsAt (goal_label t) x.formula) cs
+  AllAim cs = AllByRecursion (λ (x : Condition). AimsAt (target_label t) x.formula) cs
 
   aim_append : (cs ds : List Condition) → AllAim cs → AllAim ds → AllAim (cs ++ ds)
   aim_append [] ds h k = k
@@ -179,7 +179,7 @@ module _ (p : Program) (q : PolicyName) (part : Part) (t : Target) where
 
   one_aims : (c : Cut) (hs : List Formula) (path : Option Formula) → Aims path → AllAim (condition p q part t c hs path)
   one_aims c hs None h = tt
-  one_aims c hs (Some f) h = (implied_aims (goal_label t) hs f h, tt)
+  one_aims c hs (Some f) h = (implied_aims (target_label t) hs f h, tt)
 
   barrier_aims : (n : NodeId) (hs facts : List Formula) (behind : Option Formula) → Aims behind → AllAim (barrier_condition p q part t n hs facts behind)
   barrier_aims n hs [] behind h = tt
@@ -226,6 +226,6 @@ module _ (p : Program) (q : PolicyName) (part : Part) (t : Target) where
       (one_aims Start (ranges p p.items) (before_list p part t p.body None) (list_aims p.body)) (list_all (ranges p p.items) p.body)
 
 pub condition_aims : (p : Program) (q : PolicyName) (need : Site → Option Formula) (effect : Site → List Change) (known : NameBytes → Option Formula) (annotations : List Annotation) (c : Condition) →
-    IsListed (all_conditions p q need effect known annotations) c → AimsAt (goal_label c.pair.target) c.formula
+    IsListed (all_conditions p q need effect known annotations) c → AimsAt (target_label c.pair.target) c.formula
 condition_aims p q need effect known annotations c i =
-    let part : Part = part_of need effect known annotations in of_all (λ t x. AimsAt (goal_label t) x.formula) p q part (λ t. target_aims p q part t) c i
+    let part : Part = part_of need effect known annotations in of_all (λ t x. AimsAt (target_label t) x.formula) p q part (λ t. target_aims p q part t) c i

@@ -19,16 +19,16 @@ ghost use Rattle.ac_policy.specs.Laws.{LawForm};
 ghost use Rattle.ac_conditions.specs.AllConditions.{all_conditions};
 ghost use Rattle.ac_conditions.specs.Part.{places_of};
 ghost use Rattle.ac_conditions.specs.Statements.{AreBehindStatements};
-ghost use Rattle.ac_labels.specs.GoalLabels.{goal_label};
+ghost use Rattle.ac_labels.specs.TargetLabels.{target_label};
 
-/// The law that each label of a condition stands at a node of the walk of its pair: in a program whose nodes are numbered in
-/// preorder, where the formulas of the policy have the form that its laws ask, and the annotations have no label and those behind
-/// a node stand behind a statement.
+/// The law that each label of each condition of a program stands at a node of the walk of the condition's pair: in a program whose
+/// nodes are numbered in preorder, where the formulas of the policy have the form that its laws ask, and the annotations have no
+/// label and those behind a node stand behind a statement.
 pub fn labels_stand_on_walks()
     ensures { (program : Program) (policy : PolicyName) (need : Site → Option Formula) (effect : Site → List Change) (known : NameBytes → Option Formula) (annotations : List Annotation) → IsNumbered program → LawForm need effect known → AreBehindStatements program (places_of annotations) → ((a : Annotation) → IsListed annotations a → labels_of a.formula ≡ []) → (c : Condition) → IsListed (all_conditions program policy need effect known annotations) c → (l : Label) → IsListed (labels_of c.formula) l → IsListed (walk_of program (cuts_of (has_place (places_of annotations)) program) c.pair) l.node }
 {}
 
-/// The law that each condition aims at the label of its target.
+/// The law that each condition of a program aims at the label of its target.
 pub fn conditions_aim_at_targets()
-    ensures { (program : Program) (policy : PolicyName) (need : Site → Option Formula) (effect : Site → List Change) (known : NameBytes → Option Formula) (annotations : List Annotation) → (c : Condition) → IsListed (all_conditions program policy need effect known annotations) c → AimsAt (goal_label c.pair.target) c.formula }
+    ensures { (program : Program) (policy : PolicyName) (need : Site → Option Formula) (effect : Site → List Change) (known : NameBytes → Option Formula) (annotations : List Annotation) → (c : Condition) → IsListed (all_conditions program policy need effect known annotations) c → AimsAt (target_label c.pair.target) c.formula }
 {}

@@ -4,8 +4,8 @@ use Rattle.ac_tree.specs.declared.path.Target.TheVariants.{Entry, Keep, Barrier,
 use Rattle.ac_logic.specs.declared.label.Label.{Label}
 use Rattle.ac_logic.specs.declared.label.LabelKind.TheVariants as label
 
-abbrev pub goal_label : Target → Label
-goal_label (Entry n) = record { kind = label.Entry; node = n }
-goal_label (Keep n) = record { kind = label.Keep; node = n }
-goal_label (Barrier n) = record { kind = label.Barrier; node = n }
-goal_label (Site n) = record { kind = label.Need; node = n }
+abbrev pub target_label : Target → Label
+target_label (Entry n) = record { kind = label.Entry; node = n }
+target_label (Keep n) = record { kind = label.Keep; node = n }
+target_label (Barrier n) = record { kind = label.Barrier; node = n }
+target_label (Site n) = record { kind = label.Need; node = n }

@@ -1,0 +1,6 @@
+pub mod Opened
+pub mod Places
+pub mod Marked
+pub mod WellFormed
+pub mod Entries
+pub mod Refusals

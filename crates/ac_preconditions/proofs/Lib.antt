@@ -1,0 +1,3 @@
+pub mod GoalLists
+pub mod Closed
+pub mod Sides

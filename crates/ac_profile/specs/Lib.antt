@@ -1,0 +1,4 @@
+pub mod Opened
+pub mod Profile
+pub mod Measure
+pub mod Added

@@ -1,0 +1,34 @@
+-- What a profile says of a formula: its size and its depth, whatever its symbols count.
+use Rattle.std.specs.Prelude.{◌≡◌, ℕ, ◌+◌, ◌*◌, max, Bool, true, false, List, [], ◌∷◌}
+use Rattle.ac_logic.specs.declared.formula.Formula.{Formula}
+use Rattle.ac_logic.specs.declared.formula.Sym.{Sym}
+use Rattle.ac_logic.specs.Size.{saturated}
+use Rattle.ac_conditions.specs.Weights.{Weights, weight}
+use Rattle.ac_profile.specs.declared.profile.Occurrence.{Occurrence}
+use Rattle.ac_profile.specs.declared.profile.Profile.{Profile}
+
+-- what a symbol counts, as an array or as a scalar
+abbrev pub symbol_weight : Weights → Bool → Sym → ℕ
+symbol_weight u true s = u.array s
+symbol_weight u false s = u.scalar s
+
+-- the part of the symbols in the size: each counts as often as it occurs
+abbrev pub sizes : Weights → List Occurrence → ℕ
+sizes u [] = 0
+sizes u (o ∷ os) = o.count * symbol_weight u o.is_array o.symbol + sizes u os
+
+-- and in the depth: each counts below the nodes above it
+abbrev pub depths : Weights → List Occurrence → ℕ
+depths u [] = 0
+depths u (o ∷ os) = max (o.above + symbol_weight u o.is_array o.symbol) (depths u os)
+
+abbrev pub profile_size : Weights → Profile → ℕ
+profile_size u p = p.nodes + sizes u p.symbols.items
+
+abbrev pub profile_depth : Weights → Profile → ℕ
+profile_depth u p = max p.depth (depths u p.symbols.items)
+
+-- A profile is that of a formula where both say the same, up to the largest u64.
+pub record IsProfile (p : Profile) (f : Formula) : Type 0 where
+  pub size : (u : Weights) → saturated (profile_size u p) ≡ saturated (weight ◌+◌ u f)
+  pub depth : (u : Weights) → saturated (profile_depth u p) ≡ saturated (weight max u f)

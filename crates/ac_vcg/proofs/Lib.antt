@@ -1,0 +1,11 @@
+pub mod Implied
+pub mod Findings
+pub mod Walks
+pub mod Cuts
+pub mod Outside
+pub mod Taken
+pub mod Reaching
+pub mod Limited
+pub mod Measured
+pub mod OneTarget
+pub mod Barred

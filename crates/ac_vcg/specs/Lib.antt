@@ -1,0 +1,5 @@
+pub mod Opened
+pub mod Stands
+pub mod Refusals
+pub mod Ground
+pub mod Plan
