@@ -21,7 +21,7 @@ use Rattle.ac_conditions.specs.Part.{places_of as stated_places}
 use Rattle.ac_conditions.specs.Statements.{is_in_stmt, is_in_block, is_in_list, is_statement, AreBehindStatements}
 use Rattle.ac_kernel.specs.Opened.{hidden, formula_shape, formula_child}
 use Rattle.ac_kernel.specs.Places.{stmt_places, block_places, list_places, places_of, is_place}
-use Rattle.ac_kernel.specs.WellFormed.{NamesFit, IsWellFormed}
+use Rattle.ac_kernel.specs.WellFormed.{KeepsRanks, IsWellFormed}
 
 or_false : (b : Bool) → (b || false) ≡ b
 or_false true = refl
@@ -63,7 +63,7 @@ module _ (p : Program) where
       by true here f later = behind_one k a.place h.0.place here
       by false here f later = later f
 
-  unlabelled : (ds : List Item) (f : Formula) → NamesFit ds f → labels_of f ≡ []
+  unlabelled : (ds : List Item) (f : Formula) → KeepsRanks ds f → labels_of f ≡ []
   unfolding hidden formula_shape formula_child
   unlabelled ds True h = refl
   unlabelled ds False h = refl
@@ -78,7 +78,7 @@ module _ (p : Program) where
 
   all_unlabelled : (annotations : List Annotation) → AllByRecursion (IsWellFormed p) annotations → (a : Annotation) → IsListed annotations a → labels_of a.formula ≡ []
   all_unlabelled [] h a i = absurd i
-  all_unlabelled (b ∷ annotations) h a (inl e) = subst (λ x. labels_of x.formula ≡ []) (sym e) (unlabelled p.items b.formula h.0.names)
+  all_unlabelled (b ∷ annotations) h a (inl e) = subst (λ x. labels_of x.formula ≡ []) (sym e) (unlabelled p.items b.formula h.0.ranks)
   all_unlabelled (b ∷ annotations) h a (inr i) = all_unlabelled annotations h.1 a i
 
   pub behind_statements : (annotations : List Annotation) → All (IsWellFormed p) annotations → AreBehindStatements p (stated_places annotations)

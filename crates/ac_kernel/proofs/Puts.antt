@@ -5,8 +5,8 @@ use Rattle.ac_logic.specs.declared.formula.Term.{Term}
 use Rattle.ac_logic.specs.declared.formula.ArrayTerm.{ArrayTerm}
 use Rattle.ac_logic.specs.Patterns.{PutOf}
 use Rattle.ac_kernel.specs.Opened.{hidden, term_shape, term_child, array_shape, array_child}
-use Rattle.ac_kernel.specs.WellFormed.{TermNamesFit, ArrayNamesFit}
+use Rattle.ac_kernel.specs.WellFormed.{TermKeepsRanks, ArrayKeepsRanks}
 
-pub put_fits : (ds : List Item) (t a a2 : ArrayTerm) (i i2 j j2 v v2 : Term) (b : Bool) → t ≡ PutOf a i j v → a2 ≡ a → i2 ≡ i → j2 ≡ j → v2 ≡ v → ArrayNamesFit ds a2 → TermNamesFit ds i2 → TermNamesFit ds j2 → IsTrue b ↔ TermNamesFit ds v2 → IsTrue b ↔ ArrayNamesFit ds t
+pub put_keeps_ranks : (ds : List Item) (t a a2 : ArrayTerm) (i i2 j j2 v v2 : Term) (b : Bool) → t ≡ PutOf a i j v → a2 ≡ a → i2 ≡ i → j2 ≡ j → v2 ≡ v → ArrayKeepsRanks ds a2 → TermKeepsRanks ds i2 → TermKeepsRanks ds j2 → IsTrue b ↔ TermKeepsRanks ds v2 → IsTrue b ↔ ArrayKeepsRanks ds t
 unfolding hidden term_shape term_child array_shape array_child
-put_fits ds t a a2 i i2 j j2 v v2 b e p q r s ca ci cj cv = rw e (λ y. (rw p at ca, rw q at ci, rw r at cj, (rw s at cv).0 y), λ h. (rw s at cv).1 h.3)
+put_keeps_ranks ds t a a2 i i2 j j2 v v2 b e p q r s ca ci cj cv = rw e (λ y. (rw p at ca, rw q at ci, rw r at cj, (rw s at cv).0 y), λ h. (rw s at cv).1 h.3)

@@ -58,42 +58,42 @@ module _ (declared : List Item) where
   abbrev mutual
     unfolding hidden term_shape term_child array_shape array_child
 
-    pub TermNamesFit : Term → Type 0
-    TermNamesFit (Num n) = Unit {0}
-    TermNamesFit (Scalar s) = IsTrue (is_used_as_scalar s)
-    TermNamesFit (Bound k) = Unit {0}
-    TermNamesFit (ReadOf a i j) = ArrayNamesFit a × TermNamesFit i × TermNamesFit j
-    TermNamesFit (Sum s t) = TermNamesFit s × TermNamesFit t
-    TermNamesFit (Difference s t) = TermNamesFit s × TermNamesFit t
-    TermNamesFit (Product s t) = TermNamesFit s × TermNamesFit t
-    TermNamesFit (Negative t) = TermNamesFit t
+    pub TermKeepsRanks : Term → Type 0
+    TermKeepsRanks (Num n) = Unit {0}
+    TermKeepsRanks (Scalar s) = IsTrue (is_used_as_scalar s)
+    TermKeepsRanks (Bound k) = Unit {0}
+    TermKeepsRanks (ReadOf a i j) = ArrayKeepsRanks a × TermKeepsRanks i × TermKeepsRanks j
+    TermKeepsRanks (Sum s t) = TermKeepsRanks s × TermKeepsRanks t
+    TermKeepsRanks (Difference s t) = TermKeepsRanks s × TermKeepsRanks t
+    TermKeepsRanks (Product s t) = TermKeepsRanks s × TermKeepsRanks t
+    TermKeepsRanks (Negative t) = TermKeepsRanks t
 
-    pub ArrayNamesFit : ArrayTerm → Type 0
-    ArrayNamesFit (Array s) = IsTrue (is_used_as_array s)
-    ArrayNamesFit (PutOf a i j v) = ArrayNamesFit a × TermNamesFit i × TermNamesFit j × TermNamesFit v
+    pub ArrayKeepsRanks : ArrayTerm → Type 0
+    ArrayKeepsRanks (Array s) = IsTrue (is_used_as_array s)
+    ArrayKeepsRanks (PutOf a i j v) = ArrayKeepsRanks a × TermKeepsRanks i × TermKeepsRanks j × TermKeepsRanks v
 
-  abbrev pub NamesFit : Formula → Type 0
+  abbrev pub KeepsRanks : Formula → Type 0
   unfolding hidden formula_shape formula_child
-  NamesFit True = Unit {0}
-  NamesFit False = Unit {0}
-  NamesFit (Le s t) = TermNamesFit s × TermNamesFit t
-  NamesFit (Eq s t) = TermNamesFit s × TermNamesFit t
-  NamesFit (Negation f) = NamesFit f
-  NamesFit (Conjunction f g) = NamesFit f × NamesFit g
-  NamesFit (Disjunction f g) = NamesFit f × NamesFit g
-  NamesFit (Implication f g) = NamesFit f × NamesFit g
-  NamesFit (Every f) = NamesFit f
-  NamesFit (Labelled l f) = ⊥
+  KeepsRanks True = Unit {0}
+  KeepsRanks False = Unit {0}
+  KeepsRanks (Le s t) = TermKeepsRanks s × TermKeepsRanks t
+  KeepsRanks (Eq s t) = TermKeepsRanks s × TermKeepsRanks t
+  KeepsRanks (Negation f) = KeepsRanks f
+  KeepsRanks (Conjunction f g) = KeepsRanks f × KeepsRanks g
+  KeepsRanks (Disjunction f g) = KeepsRanks f × KeepsRanks g
+  KeepsRanks (Implication f g) = KeepsRanks f × KeepsRanks g
+  KeepsRanks (Every f) = KeepsRanks f
+  KeepsRanks (Labelled l f) = ⊥
 
 -- The place is a loop or behind a statement, no `Bound` is loose, there is no label and no new name of a proof, and each
 -- symbol is used with the rank of its name: a value that of an input or a variable, a shadow that of a variable.
-pub record IsFitting (declared : List Item) (places : List Place) (a : Annotation) : Type 0 where
+pub record IsWellFormedFor (declared : List Item) (places : List Place) (a : Annotation) : Type 0 where
   pub place : IsTrue (is_place places a.place)
   pub closed : IsClosed a.formula
-  pub names : NamesFit declared a.formula
+  pub ranks : KeepsRanks declared a.formula
 
 abbrev pub IsWellFormed : Program → Annotation → Type 0
-IsWellFormed p a = IsFitting p.items (places_of p) a
+IsWellFormed p a = IsWellFormedFor p.items (places_of p) a
 
 -- the annotation at this place of the list is not well formed, and those before it are
 pub record IsFirstIllFormed (p : Program) (annotations : List Annotation) (index : ℕ) : Type 0 where

@@ -1,9 +1,9 @@
 //! Whether the annotations of a part are well formed.
 ghost use Rattle.std.specs.Prelude.{◌≡◌, ◌↔◌, IsTrue, IfOk, MatchOption, All};
-ghost use Rattle.ac_kernel.specs.WellFormed.{IsFitting, IsWellFormed, IsFirstIllFormed};
+ghost use Rattle.ac_kernel.specs.WellFormed.{IsWellFormedFor, IsWellFormed, IsFirstIllFormed};
 
-use crate::names::names_fit;
 use crate::places::Places;
+use crate::ranks::keeps_ranks;
 use ac_logic::{Annotation, is_closed};
 use ac_names::NameTable;
 use ac_tree::Program;
@@ -20,16 +20,16 @@ pub fn first_ill_formed(
     let names = NameTable::new(alloc, program.items.as_slice())?;
     let places = Places::new(alloc, program)?;
     for index in 0..annotations.len() {
-        if !is_fitting(&names, &places, &annotations[index]) {
+        if !is_well_formed(&names, &places, &annotations[index]) {
             return Ok(Some(index));
         }
     }
     Ok(None)
 }
 
-fn is_fitting(names: &NameTable<'_>, places: &Places, annotation: &Annotation) -> bool
-    ensures { IsTrue result ↔ IsFitting names.now places.now annotation.now }
+fn is_well_formed(names: &NameTable<'_>, places: &Places, annotation: &Annotation) -> bool
+    ensures { IsTrue result ↔ IsWellFormedFor names.now places.now annotation.now }
 {
     let formula = annotation.formula.get();
-    places.has(annotation.place) && is_closed(formula) && names_fit(names, formula)
+    places.has(annotation.place) && is_closed(formula) && keeps_ranks(names, formula)
 }

@@ -1,6 +1,6 @@
 //! The conditions of a part are made anew.
 ghost use Rattle.std.specs.Prelude.{◌≡◌, IfOk, IfErr, OnOk};
-ghost use Rattle.ac_conditions.specs.AllConditions.{all_conditions};
+ghost use Rattle.ac_kernel.specs.Anew.{conditions_under};
 ghost use Rattle.ac_kernel.specs.Refusals.{AreWithinLimits, IsLimitRefusal, limit_in};
 
 use crate::refused::Refused;
@@ -18,9 +18,9 @@ pub fn regenerate<P: Policy>(
     name: PolicyName,
     annotations: &[Annotation],
 ) -> Result<Vec<Condition>, Refused>
-    ensures made { IfOk result (λ made. made.items ≡ all_conditions program.now name (P.need_of policy.now program.now) (P.effect_of policy.now program.now) (P.known_of policy.now) annotations.now) }
-    ensures within { OnOk result (AreWithinLimits (all_conditions program.now name (P.need_of policy.now program.now) (P.effect_of policy.now program.now) (P.known_of policy.now) annotations.now)) }
-    ensures refused { IfErr result (IsLimitRefusal (all_conditions program.now name (P.need_of policy.now program.now) (P.effect_of policy.now program.now) (P.known_of policy.now) annotations.now)) }
+    ensures made { IfOk result (λ made. made.items ≡ conditions_under P.Policy policy.now program.now name annotations.now) }
+    ensures within { OnOk result (AreWithinLimits (conditions_under P.Policy policy.now program.now name annotations.now)) }
+    ensures refused { IfErr result (IsLimitRefusal (conditions_under P.Policy policy.now program.now name annotations.now)) }
 {
     match conditions(alloc, program, policy, name, annotations) {
         Ok(made) => Ok(made),

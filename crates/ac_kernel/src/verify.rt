@@ -1,8 +1,8 @@
 //! A part of a certificate against a program and a policy.
 ghost use Rattle.std.specs.Prelude.{◌≡◌, ◌<◌, ◌^◌, IfOk, IfErr, OnOk, All, length};
 ghost use Rattle.ac_tree.specs.StaticRules.{KeepsStaticRules};
-ghost use Rattle.ac_conditions.specs.AllConditions.{all_conditions};
 ghost use Rattle.ac_soundness.specs.NeverBad.{NeverBad};
+ghost use Rattle.ac_kernel.specs.Anew.{conditions_of_part};
 ghost use Rattle.ac_kernel.specs.Refusals.{HasSmallIndexes, IsAccepted, IsRefusal, IsAnnotationRefusal, IsEntriesRefusal, AreAllShown};
 ghost use Rattle.ac_kernel.specs.WellFormed.{IsWellFormed};
 
@@ -29,9 +29,9 @@ pub fn verify_part<P: Policy>(
     requires accepted { KeepsStaticRules program.now }
     requires indexes { HasSmallIndexes part.now }
     ensures safe { OnOk result (NeverBad program.now (P.bad policy.now program.now)) }
-    ensures accepted { OnOk result (IsAccepted program.now part.now (all_conditions program.now part.now.policy (P.need_of policy.now program.now) (P.effect_of policy.now program.now) (P.known_of policy.now) part.now.annotations)) }
-    ensures count { IfOk result (λ count. count ≡ length (all_conditions program.now part.now.policy (P.need_of policy.now program.now) (P.effect_of policy.now program.now) (P.known_of policy.now) part.now.annotations)) }
-    ensures refused { IfErr result (IsRefusal program.now part.now (all_conditions program.now part.now.policy (P.need_of policy.now program.now) (P.effect_of policy.now program.now) (P.known_of policy.now) part.now.annotations)) }
+    ensures accepted { OnOk result (IsAccepted program.now part.now (conditions_of_part P.Policy policy.now program.now part.now)) }
+    ensures count { IfOk result (λ count. count ≡ length (conditions_of_part P.Policy policy.now program.now part.now)) }
+    ensures refused { IfErr result (IsRefusal program.now part.now (conditions_of_part P.Policy policy.now program.now part.now)) }
 {
     check_annotations(alloc, program, part)?;
     let annotations = part.annotations.as_slice();

@@ -1,2 +1,3 @@
 pub mod Opened
 pub mod TargetLabels
+pub mod LabelledWalks

@@ -1,7 +1,7 @@
 //! Whether a formula uses each name with its rank, and has no label and no new name of a proof.
 ghost use Rattle.std.specs.Prelude.{◌≡◌, ◌↔◌, IsTrue};
 ghost use Rattle.std.specs.Option.{option_copied};
-ghost use Rattle.ac_kernel.specs.WellFormed.{is_scalar as scalar, is_array as array, is_scalar_variable as scalar_variable, is_array_variable as array_variable, is_used_as_scalar, is_used_as_array, NamesFit, TermNamesFit, ArrayNamesFit};
+ghost use Rattle.ac_kernel.specs.WellFormed.{is_scalar as scalar, is_array as array, is_scalar_variable as scalar_variable, is_array_variable as array_variable, is_used_as_scalar, is_used_as_array, KeepsRanks, TermKeepsRanks, ArrayKeepsRanks};
 
 use ac_logic::{ArrayTerm, Formula, Sym, Term};
 use ac_names::NameTable;
@@ -57,58 +57,58 @@ fn is_array_symbol(names: &NameTable<'_>, symbol: &Sym) -> bool
     }
 }
 
-#[cycle(term_names_fit)]
-fn term_names_fit(names: &NameTable<'_>, term: &Term) -> bool
-    ensures { IsTrue result ↔ TermNamesFit names.now term.now }
+#[cycle(term_keeps_ranks)]
+fn term_keeps_ranks(names: &NameTable<'_>, term: &Term) -> bool
+    ensures { IsTrue result ↔ TermKeepsRanks names.now term.now }
 {
     match term {
         Term::Num(_) => true,
         Term::Sym(symbol) => is_scalar_symbol(names, symbol),
         Term::Bound(_) => true,
         Term::Read(a, i, j) => {
-            array_names_fit(names, a.get())
-                && term_names_fit(names, i.get())
-                && term_names_fit(names, j.get())
+            array_keeps_ranks(names, a.get())
+                && term_keeps_ranks(names, i.get())
+                && term_keeps_ranks(names, j.get())
         }
-        Term::Add(s, t) => term_names_fit(names, s.get()) && term_names_fit(names, t.get()),
-        Term::Sub(s, t) => term_names_fit(names, s.get()) && term_names_fit(names, t.get()),
-        Term::Mul(s, t) => term_names_fit(names, s.get()) && term_names_fit(names, t.get()),
-        Term::Neg(t) => term_names_fit(names, t.get()),
+        Term::Add(s, t) => term_keeps_ranks(names, s.get()) && term_keeps_ranks(names, t.get()),
+        Term::Sub(s, t) => term_keeps_ranks(names, s.get()) && term_keeps_ranks(names, t.get()),
+        Term::Mul(s, t) => term_keeps_ranks(names, s.get()) && term_keeps_ranks(names, t.get()),
+        Term::Neg(t) => term_keeps_ranks(names, t.get()),
     }
 }
 
-#[cycle(term_names_fit)]
-fn array_names_fit(names: &NameTable<'_>, array: &ArrayTerm) -> bool
-    ensures { IsTrue result ↔ ArrayNamesFit names.now array.now }
+#[cycle(term_keeps_ranks)]
+fn array_keeps_ranks(names: &NameTable<'_>, array: &ArrayTerm) -> bool
+    ensures { IsTrue result ↔ ArrayKeepsRanks names.now array.now }
 {
     match array {
         ArrayTerm::Sym(symbol) => is_array_symbol(names, symbol),
         ArrayTerm::Put(a, i, j, v) => {
-            if !array_names_fit(names, a.get()) {
+            if !array_keeps_ranks(names, a.get()) {
                 return false;
             }
-            if !term_names_fit(names, i.get()) {
+            if !term_keeps_ranks(names, i.get()) {
                 return false;
             }
-            term_names_fit(names, j.get()) && term_names_fit(names, v.get())
+            term_keeps_ranks(names, j.get()) && term_keeps_ranks(names, v.get())
         }
     }
 }
 
 /// Whether the formula uses each name with its rank, and has no label and no new name of a proof.
-pub fn names_fit(names: &NameTable<'_>, formula: &Formula) -> bool
-    ensures { IsTrue result ↔ NamesFit names.now formula.now }
+pub fn keeps_ranks(names: &NameTable<'_>, formula: &Formula) -> bool
+    ensures { IsTrue result ↔ KeepsRanks names.now formula.now }
 {
     match formula {
         Formula::True => true,
         Formula::False => true,
-        Formula::Le(s, t) => term_names_fit(names, s.get()) && term_names_fit(names, t.get()),
-        Formula::Eq(s, t) => term_names_fit(names, s.get()) && term_names_fit(names, t.get()),
-        Formula::Not(f) => names_fit(names, f.get()),
-        Formula::And(f, g) => names_fit(names, f.get()) && names_fit(names, g.get()),
-        Formula::Or(f, g) => names_fit(names, f.get()) && names_fit(names, g.get()),
-        Formula::Implies(f, g) => names_fit(names, f.get()) && names_fit(names, g.get()),
-        Formula::All(f) => names_fit(names, f.get()),
+        Formula::Le(s, t) => term_keeps_ranks(names, s.get()) && term_keeps_ranks(names, t.get()),
+        Formula::Eq(s, t) => term_keeps_ranks(names, s.get()) && term_keeps_ranks(names, t.get()),
+        Formula::Not(f) => keeps_ranks(names, f.get()),
+        Formula::And(f, g) => keeps_ranks(names, f.get()) && keeps_ranks(names, g.get()),
+        Formula::Or(f, g) => keeps_ranks(names, f.get()) && keeps_ranks(names, g.get()),
+        Formula::Implies(f, g) => keeps_ranks(names, f.get()) && keeps_ranks(names, g.get()),
+        Formula::All(f) => keeps_ranks(names, f.get()),
         Formula::Lab(_, _) => false,
     }
 }
