@@ -1,7 +1,8 @@
 //! What a line asks for.
+use ac_answers_kernel::{condition_lists, parts};
 use ac_answers_language::{flow, programs, runs};
 use ac_answers_logic::{differences, formulas, ground_forms, linear, proof_trees};
-use ac_answers_policies::{condition_lists, parts, policies};
+use ac_answers_policies::policies;
 use ac_asks::{Answer, text_at};
 use serde_json::{Value, json};
 use std::alloc::{AllocError, Global};

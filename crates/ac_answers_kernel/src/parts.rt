@@ -2,9 +2,10 @@
 ghost use Rattle.ac_tree.specs.StaticRules.{KeepsStaticRules};
 
 use crate::part_reader::part_at;
-use crate::policies::{policy_at, program_at};
+use crate::policy_words::word_of;
 use ac_answers_language::flow::pair_value;
 use ac_answers_logic::proof_trees::path_list;
+use ac_answers_policies::policies::{policy_at, program_at};
 use ac_asks::{Answer, told};
 use ac_kernel::{Refused, has_small_indexes};
 use ac_policy::AnyPolicy;
@@ -90,12 +91,4 @@ fn step_refusal(alloc: Global, policy: PolicyName, pair: Pair, path: &Items<u32>
     let step = path_list(alloc, path.as_slice())?;
     let pair = pair_value(alloc, pair)?;
     Ok(Some(json!(in alloc; {"pair": pair, "policy": policy, "step": step})?))
-}
-
-fn word_of(policy: PolicyName) -> &'static str {
-    match policy {
-        PolicyName::Init => "init",
-        PolicyName::Bounds => "bounds",
-        PolicyName::Symm => "symm",
-    }
 }

@@ -1,5 +1,6 @@
 //! Parts of certificates in asks.
 use crate::annotations::annotations_of;
+use crate::policy_words::policy_named;
 use ac_answers_language::flow::{cut_of, target_of};
 use ac_answers_logic::formulas::formula;
 use ac_answers_logic::proof_trees::last_step;
@@ -10,15 +11,6 @@ use ac_tree::{Pair, PolicyName};
 use serde_json::Value;
 use sqlite_items::Items;
 use std::alloc::{AllocError, Global};
-
-fn policy_named(word: &str) -> Option<PolicyName> {
-    match word {
-        "init" => Some(PolicyName::Init),
-        "bounds" => Some(PolicyName::Bounds),
-        "symm" => Some(PolicyName::Symm),
-        _ => None,
-    }
-}
 
 /// The part of an ask.
 pub fn part_at(alloc: Global, ask: &Value) -> anyhow::Result<Option<CertPart>> {

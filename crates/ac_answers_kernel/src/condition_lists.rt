@@ -1,7 +1,7 @@
 //! Asks about the verification conditions of a program.
 use crate::annotations::annotations_of;
-use crate::policies::{policy_at, program_at};
 use ac_answers_language::flow::{cut_value, pair_value, target_value};
+use ac_answers_policies::policies::{policy_at, program_at};
 use ac_asks::{Answer, list_at, told};
 use ac_formula_printer::print_formula;
 use ac_logic::{Annotation, Condition};
