@@ -1,0 +1,4 @@
+pub mod Closed
+pub mod Changing
+pub mod Judged
+pub mod Instanced

@@ -1,0 +1,5 @@
+pub mod Opened
+pub mod Instances
+pub mod Judging
+pub mod Outcomes
+pub mod Wrongs

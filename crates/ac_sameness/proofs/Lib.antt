@@ -1,0 +1,4 @@
+pub mod Rows
+pub mod Dropping
+pub mod Others
+pub mod Writing
