@@ -1,6 +1,6 @@
-mod Complete
-mod Sound
-mod Refuse
+pub mod Complete
+pub mod Sound
+pub mod Refuse
 mod Reading
 mod Running
 mod Pieces

@@ -58,11 +58,7 @@ fn whole_term(alloc: Global, state: State) -> Result<Option<Term>, AllocError>
 }
 
 /// The term, if nothing is open around it.
-pub(crate) fn end_term(
-    alloc: Global,
-    stack: Stack,
-    state: State,
-) -> Result<Option<Term>, AllocError>
+pub fn end_term(alloc: Global, stack: Stack, state: State) -> Result<Option<Term>, AllocError>
     ensures { IfOk result (λ term. term ≡ term_ended stack state) }
 {
     let mut stack = stack;
@@ -148,11 +144,7 @@ fn end_side(alloc: Global, stack: Stack, state: State) -> Result<Option<Formula>
 }
 
 /// The formula, if it may end here.
-pub(crate) fn end_formula(
-    alloc: Global,
-    stack: Stack,
-    state: State,
-) -> Result<Option<Formula>, AllocError>
+pub fn end_formula(alloc: Global, stack: Stack, state: State) -> Result<Option<Formula>, AllocError>
     ensures { IfOk result (λ whole. whole ≡ formula_ended stack state) }
 {
     match state {

@@ -208,7 +208,7 @@ fn name_all(before: Before, mark: &FormulaMark) -> Result<Option<State>, AllocEr
 }
 
 /// One token. None: nothing goes on with it.
-pub(crate) fn step(
+pub fn step(
     alloc: Global,
     stack: &mut Stack,
     state: State,

@@ -146,7 +146,7 @@ fn sign(kind: ByteKind, bytes: &[u8]) -> Option<Piece>
 
 /// The longest token that the bytes begin with. None: a fault, a blank or the end.
 #[tactic(auto, using(crate::proofs::Pieces::hash_first, crate::proofs::Pieces::at_first, crate::proofs::Pieces::empty_first))]
-pub(crate) fn first_token(alloc: Global, bytes: &[u8]) -> Result<Option<Piece>, AllocError>
+pub fn first_token(alloc: Global, bytes: &[u8]) -> Result<Option<Piece>, AllocError>
     ensures { IfOk result (λ piece. IsFirst bytes.now piece) }
 {
     if bytes.is_empty() {

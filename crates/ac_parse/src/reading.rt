@@ -10,7 +10,7 @@ use ac_tree::{Keyword, LimitKind, Mark, Program, Sign, Span, Token};
 use std::alloc::{AllocError, Global};
 
 /// How many constructs are open behind a token.
-fn nest(depth: u64, mark: &Mark) -> u64
+pub fn nest(depth: u64, mark: &Mark) -> u64
     requires { depth < 2 ^ 32 }
     ensures { result ≡ nested depth mark.now }
 {
@@ -25,7 +25,7 @@ fn nest(depth: u64, mark: &Mark) -> u64
 }
 
 /// How many operators stand in one place behind a token.
-fn operate(operators: u64, mark: &Mark) -> u64
+pub fn operate(operators: u64, mark: &Mark) -> u64
     requires { operators < 2 ^ 32 }
     ensures { result ≡ operated operators mark.now }
 {

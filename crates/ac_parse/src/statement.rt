@@ -78,6 +78,7 @@ pub struct StmtReading {
     pub state: StmtState,
 }
 
+/// A statement whose node has no number yet.
 pub fn made(span: Span, kind: StmtKind) -> Stmt
     ensures { result ≡ statement_of span kind }
 {
@@ -96,6 +97,7 @@ pub fn begin(alloc: Global) -> StmtReading
     }
 }
 
+/// A block that has come to a state.
 pub fn at(stack: Stack<Frame>, done: Items<Stmt>, state: StmtState) -> Option<StmtReading>
     ensures { result ≡ Some (reading_of stack done state) }
 {

@@ -1,4 +1,4 @@
--- No promise rests on this file: it says how the code cuts a text piece by piece, each a blank, a comment or a token.
+-- The pieces of a text: each is a blank, a comment or a token.
 use Rattle.std.specs.Prelude.{ℕ, ◌≤◌, ◌<◌, List, length, drop}
 use Rattle.std.specs.Option.{option_to_list}
 use Rattle.ac_tree.specs.declared.token.ByteKind.{ByteKind}
@@ -16,6 +16,7 @@ IsNoWord Letter = ⊥
 IsNoWord Digit = ⊥
 IsNoWord _ = Unit {0}
 
+-- at this place begins this piece, the longest one, and it is within the limits
 pub record IsPiece (bytes : List ℕ) (at : ℕ) (piece : Piece) : Type 0 where
   pub cut : Lexes at (drop at bytes) (option_to_list piece.token) piece.end (drop piece.end bytes)
   pub ahead : at < piece.end

@@ -20,9 +20,9 @@ use std::alloc::Global;
 
 /// A blank, a comment or a token, and where it ends.
 #[derive(Drop)]
-struct Piece {
-    token: Option<Token>,
-    end: usize,
+pub struct Piece {
+    pub token: Option<Token>,
+    pub end: usize,
 }
 
 /// The tokens of a text in order, blanks and comments left out, or its first fault.
@@ -52,8 +52,8 @@ fn push_token(tokens: &mut Vec<Token>, token: Option<Token>) -> Result<(), Token
     Ok(())
 }
 
-/// The longest piece at a place.
-fn piece_at(alloc: Global, bytes: &[u8], at: usize) -> Result<Piece, TokenFault>
+/// The longest piece at a place, or why nothing within the limits begins there.
+pub fn piece_at(alloc: Global, bytes: &[u8], at: usize) -> Result<Piece, TokenFault>
     requires within { at < length bytes.now }
     requires short { length bytes.now < 2 ^ 32 }
     ensures piece { IfOk result (λ piece. IsPiece bytes.now at piece) }
