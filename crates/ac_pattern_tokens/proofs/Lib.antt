@@ -1,0 +1,2 @@
+pub mod CodeCuts
+mod NamesAt
