@@ -20,29 +20,29 @@ comes_from told before after words n (Judged o) asks h = (n, asks, h)
 pub accepted : (told : Told) (before after : List ℕ → ℕ) (words : List (List ℕ)) (a : Answer) → Comes told before after words a → status_of a ≡ status.Accepted → Certifies told words
 accepted told before after words Usage h e = cc
 accepted told before after words ReadFault h e = cc
-accepted told before after words (Judged (Accepted k)) h e = certified_names told words h.0 k h.1 h.2
-accepted told before after words (Judged (Rejected k nodes)) h e = cc
+accepted told before after words (Judged (Accepted ks)) h e = certified_names told words h.0 ks h.1 h.2
+accepted told before after words (Judged (Rejected ks nodes)) h e = cc
 accepted told before after words (Judged (Program fault)) h e = cc
 accepted told before after words (Judged (Limit which value)) h e = cc
-accepted told before after words (Judged Policy) h e = cc
+accepted told before after words (Judged (Policy fault)) h e = cc
 accepted told before after words (Judged OutOfMemory) h e = cc
 
 pub never_certificate : (a : Answer) → status_of a ≢ status.Certificate
 never_certificate Usage e = cc
 never_certificate ReadFault e = cc
-never_certificate (Judged (Accepted k)) e = cc
-never_certificate (Judged (Rejected k nodes)) e = cc
+never_certificate (Judged (Accepted ks)) e = cc
+never_certificate (Judged (Rejected ks nodes)) e = cc
 never_certificate (Judged (Program fault)) e = cc
 never_certificate (Judged (Limit which value)) e = cc
-never_certificate (Judged Policy) e = cc
+never_certificate (Judged (Policy fault)) e = cc
 never_certificate (Judged OutOfMemory) e = cc
 
 pub never_write_fault : (a : Answer) → status_of a ≢ status.WriteFault
 never_write_fault Usage e = cc
 never_write_fault ReadFault e = cc
-never_write_fault (Judged (Accepted k)) e = cc
-never_write_fault (Judged (Rejected k nodes)) e = cc
+never_write_fault (Judged (Accepted ks)) e = cc
+never_write_fault (Judged (Rejected ks nodes)) e = cc
 never_write_fault (Judged (Program fault)) e = cc
 never_write_fault (Judged (Limit which value)) e = cc
-never_write_fault (Judged Policy) e = cc
+never_write_fault (Judged (Policy fault)) e = cc
 never_write_fault (Judged OutOfMemory) e = cc

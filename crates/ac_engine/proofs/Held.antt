@@ -1,5 +1,5 @@
 -- The bytes under a name: those that are told, else others.
-use Rattle.std.proofs.Common.{◌≡◌, ◌≢◌, ℕ, ◌+◌, ◌<◌, List, [], length, refl, ap, subst, arith}
+use Rattle.std.proofs.Common.{◌≡◌, ℕ, ◌+◌, ◌<◌, List, [], length, refl, ap, subst, inl, arith}
 use Rattle.std.specs.Prelude.{Option, Some, None, unwrap_or, replicate}
 use Rattle.std.specs.Option.{ForSome}
 use Rattle.std.proofs.lemmas.List.{length-replicate}
@@ -8,12 +8,12 @@ use Rattle.ac_tree.specs.Limits.{limit_of}
 use Rattle.ac_tree.specs.declared.limit.LimitKind.TheVariants.{ProgramBytes, PolicyBytes}
 use Rattle.ac_tree.specs.declared.program.Program.{Program}
 use Rattle.ac_verdict.specs.declared.outcome.Outcome.{Outcome}
-use Rattle.ac_verdict.specs.declared.outcome.Outcome.TheVariants.{Accepted, Limit, Policy, OutOfMemory}
-use Rattle.ac_verdict.specs.Causes.{HasVerdict, IsRefusal, IsCause}
+use Rattle.ac_verdict.specs.declared.outcome.Outcome.TheVariants.{Accepted, Limit, OutOfMemory}
+use Rattle.ac_verdict.specs.declared.count.Count.{Count}
+use Rattle.ac_verdict.specs.Causes.{HasVerdict, IsSomeProgram, IsRefusal, IsCause}
 use Rattle.ac_verdict.specs.Headline.{IsCertified}
-use Rattle.ac_verdict.specs.Policy.{bounds_text}
-use Rattle.ac_verdict.proofs.Verdicts.{refusal_cause, certified}
-use Rattle.ac_engine.specs.Causes.{AreOf, IsOutcomeOf, IsSomeProgram, Certifies}
+use Rattle.ac_verdict.proofs.Verdicts.{refusal_cause, long_policy_cause, certified}
+use Rattle.ac_engine.specs.Causes.{AreOf, IsOutcomeOf, Certifies}
 use Rattle.ac_engine.specs.Words.{Names, Asks}
 
 -- the bytes that are told, else these
@@ -55,7 +55,7 @@ long_program told program policy most value most_is value_is long = record {
   policy_bytes = held told policy [];
   of_program = held_of told program (zeros (limit_of ProgramBytes + 1));
   of_policy = held_of told policy [];
-  cause = (value_is, held_by (λ x. limit_of ProgramBytes < length x) (told program) (zeros (limit_of ProgramBytes + 1)) (longer (limit_of ProgramBytes)) (λ x e. subst (λ (n : ℕ). n < length x) most_is (long x e)));
+  cause = inl (value_is, held_by (λ x. limit_of ProgramBytes < length x) (told program) (zeros (limit_of ProgramBytes + 1)) (longer (limit_of ProgramBytes)) (λ x e. subst (λ (n : ℕ). n < length x) most_is (long x e)));
 }
 
 -- a program that is refused
@@ -68,19 +68,16 @@ refused told program policy bytes o same h = record {
   cause = refusal_cause bytes (held told policy []) o h;
 }
 
-no_bounds : (bytes : List ℕ) → limit_of PolicyBytes < length bytes → bytes ≢ bounds_text
-no_bounds bytes long e = absurd (omega (arith, ap length e))
-
 -- an accepted program and a policy file that is longer than its limit
-pub long_policy : (told : Told) (program policy bytes : List ℕ) (p : Program) (most : ℕ) → AreOf told program bytes → HasVerdict bytes p → most ≡ limit_of PolicyBytes →
-    ForSome (told policy) (λ x. most < length x) → IsOutcomeOf told program policy Policy
+pub long_policy : (told : Told) (program policy bytes : List ℕ) (p : Program) (most value : ℕ) → AreOf told program bytes → HasVerdict bytes p → most ≡ limit_of PolicyBytes → value ≡ limit_of PolicyBytes →
+    ForSome (told policy) (λ x. most < length x) → IsOutcomeOf told program policy (Limit PolicyBytes value)
 unfolding held
-long_policy told program policy bytes p most same verdict most_is long = record {
+long_policy told program policy bytes p most value same verdict most_is value_is long = record {
   bytes = bytes;
   policy_bytes = held told policy (zeros (limit_of PolicyBytes + 1));
   of_program = same;
   of_policy = held_of told policy (zeros (limit_of PolicyBytes + 1));
-  cause = ((p, verdict), no_bounds _ (held_by (λ x. limit_of PolicyBytes < length x) (told policy) (zeros (limit_of PolicyBytes + 1)) (longer (limit_of PolicyBytes)) (λ x e. subst (λ (n : ℕ). n < length x) most_is (long x e))));
+  cause = long_policy_cause bytes _ p value verdict value_is (held_by (λ x. limit_of PolicyBytes < length x) (told policy) (zeros (limit_of PolicyBytes + 1)) (longer (limit_of PolicyBytes)) (λ x e. subst (λ (n : ℕ). n < length x) most_is (long x e)));
 }
 
 -- an accepted program and a policy file
@@ -93,9 +90,9 @@ pub accepted_bytes : (told : Told) (program policy : List ℕ) (bytes : List ℕ
 accepted_bytes told program policy bytes p same verdict x e = (p, subst (λ (bs : List ℕ). HasVerdict bs p) (same x e) verdict)
 
 -- the headline
-pub certified_names : (told : Told) (words : List (List ℕ)) (n : Names) (k : ℕ) → Asks words n → IsOutcomeOf told n.program n.policy (Accepted k) → Certifies told words
-certified_names told words n k asks o =
-    let c = certified o.bytes o.policy_bytes k o.cause in (
+pub certified_names : (told : Told) (words : List (List ℕ)) (n : Names) (ks : List Count) → Asks words n → IsOutcomeOf told n.program n.policy (Accepted ks) → Certifies told words
+certified_names told words n ks asks o =
+    let c = certified o.bytes o.policy_bytes ks o.cause in (
       n,
       asks,
       λ program e policy f.

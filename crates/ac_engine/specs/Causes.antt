@@ -3,9 +3,8 @@ use Rattle.std.specs.Prelude.{◌≡◌, ◌⊎◌, ℕ, List}
 use Rattle.std.specs.Option.{ForSome}
 use Rattle.ac_io.specs.Contents.{Told}
 use Rattle.ac_io.specs.Counts.{Rose}
-use Rattle.ac_tree.specs.declared.program.Program.{Program}
 use Rattle.ac_verdict.specs.declared.outcome.Outcome.{Outcome}
-use Rattle.ac_verdict.specs.Causes.{HasVerdict, IsCause}
+use Rattle.ac_verdict.specs.Causes.{IsSomeProgram, IsCause}
 use Rattle.ac_verdict.specs.Headline.{IsCertified}
 use Rattle.ac_engine.specs.declared.answer.Answer.{Answer}
 use Rattle.ac_engine.specs.declared.answer.Answer.TheVariants.{Usage, ReadFault, Judged}
@@ -22,10 +21,6 @@ pub record IsOutcomeOf (told : Told) (program policy : List ℕ) (o : Outcome) :
   pub of_program : AreOf told program bytes
   pub of_policy : AreOf told policy policy_bytes
   pub cause : IsCause bytes policy_bytes o
-
--- the bytes are of a program that is accepted
-abbrev pub IsSomeProgram : List ℕ → Type 0
-IsSomeProgram bytes = (p : Program) × HasVerdict bytes p
 
 -- What the files tell as the call begins, and the counts of failed loads by name as it begins and as it ends.
 module _ (told : Told) (before after : List ℕ → ℕ) where

@@ -10,11 +10,11 @@ use Rattle.ac_engine.specs.declared.status.Status.TheVariants as status
 abbrev pub status_of : Answer → Status
 status_of Usage = status.Usage
 status_of ReadFault = status.ReadFault
-status_of (Judged (Accepted k)) = status.Accepted
-status_of (Judged (Rejected k unproved)) = status.Rejected
+status_of (Judged (Accepted ks)) = status.Accepted
+status_of (Judged (Rejected ks unproved)) = status.Rejected
 status_of (Judged (Program fault)) = status.Program
 status_of (Judged (Limit which value)) = status.Limit
-status_of (Judged Policy) = status.Policy
+status_of (Judged (Policy fault)) = status.Policy
 status_of (Judged OutOfMemory) = status.Memory
 
 abbrev pub text_of : Answer → List ℕ

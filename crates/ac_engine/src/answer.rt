@@ -54,7 +54,7 @@ fn judged_status(outcome: &Outcome) -> Status
         Outcome::Rejected { .. } => Status::Rejected,
         Outcome::Program { .. } => Status::Program,
         Outcome::Limit { .. } => Status::Limit,
-        Outcome::Policy => Status::Policy,
+        Outcome::Policy { .. } => Status::Policy,
         Outcome::OutOfMemory => Status::Memory,
     }
 }

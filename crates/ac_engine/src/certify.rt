@@ -87,7 +87,9 @@ fn certified<F: Files>(alloc: Global, program: &str, policy: &str, files: &mut F
     let bytes = match files.load(alloc, policy, LimitKind::PolicyBytes.number()) {
         Ok(bytes) => bytes,
         Err(LoadFault::Long) => {
-            let outcome = Outcome::Policy;
+            let which = LimitKind::PolicyBytes;
+            let value = which.number();
+            let outcome = Outcome::Limit { which, value };
             return Answer::Judged { outcome };
         }
         Err(LoadFault::Failed) => return Answer::ReadFault,

@@ -14,7 +14,7 @@ pub enum Status {
     Usage,
     /// The program is refused.
     Program,
-    /// The policy is not supported.
+    /// The policy file is refused.
     Policy,
     /// A file can't be read.
     ReadFault,

@@ -1,5 +1,8 @@
+pub mod Counted
 pub mod Lists
 pub mod OneOutcome
+pub mod OnlyWrites
+pub mod Policies
 pub mod Reports
 pub mod Statements
 pub mod TextLaws

@@ -1,33 +1,64 @@
--- The text of a rejection, line by line.
-use Rattle.std.proofs.Common.{◌≡◌, ℕ, ◌+◌, ◌<◌, List, [], ◌∷◌, ◌++◌, length, take, ◌≤◌, get_or, map, ap, sym, ◌∙◌, append_assoc, append-nil, codes}
-use Rattle.std.specs.List.{flat_map}
+-- The text of a report, line by line.
+use Rattle.std.proofs.Common.{◌≡◌, ℕ, zero, suc, ◌+◌, ◌<◌, ◌≤◌, Bool, codes, refl, List, [], ◌∷◌, ◌++◌, length, map, take, get_or, ap, sym, ◌∙◌, append_assoc, append-nil}
+use Rattle.std.specs.List.{flat_map, list_any}
 use Rattle.std.specs.Fmt.{decimal}
-use Rattle.std.proofs.lemmas.List.Concat.{flat_map-append}
-use Rattle.ac_tree.specs.declared.node.Node.{Node}
-use Rattle.ac_verdict.specs.declared.outcome.Outcome.TheVariants.{Rejected}
-use Rattle.ac_verdict.specs.Report.{line, unproved_line, report, lines_of}
-use Rattle.ac_verdict.proofs.Lists.{map-both}
 use Rattle.std.proofs.lemmas.List.{take_more, take_all}
+use Rattle.std.proofs.lemmas.List.Concat.{flat_map-append}
+use Rattle.ac_verdict.specs.declared.count.Count.{Count}
+use Rattle.ac_verdict.specs.Report.{line, policy_word, count_text, count_line, is_bounds, inputs_in_ranges, no_bound, end_of_run, assumptions}
+use Rattle.ac_verdict.proofs.Lists.{map-both}
 
--- the two lines before those of the nodes
-abbrev pub rejected_head : (conditions unproved : ℕ) → List ℕ
-rejected_head k n = line (codes "rejected") ++ line (codes "bounds: " ++ (decimal n ++ (codes " of " ++ (decimal k ++ codes " conditions unproved"))))
+lines-next : {A : Type 0} (f : A → List ℕ) (xs : List A) (i : ℕ) (d : A) → i < length xs →
+    flat_map line (map f (take (i + 1) xs)) ≡ flat_map line (map f (take i xs)) ++ line (f (get_or xs i d))
+lines-next {A = A} f xs i d low =
+    ap (λ (ys : List A). flat_map line (map f ys)) (take_more xs i d low)
+    ∙ ap (flat_map line) (map-both f (take i xs) (get_or xs i d ∷ []))
+    ∙ flat_map-append line (map f (take i xs)) (f (get_or xs i d) ∷ [])
+    ∙ ap (λ (ts : List ℕ). flat_map line (map f (take i xs)) ++ ts) (append-nil (line (f (get_or xs i d))))
 
-pub one_more_line : (head text after : List ℕ) (nodes : List Node) (i : ℕ) (d : Node) → i < length nodes →
-    text ≡ head ++ flat_map line (map unproved_line (take i nodes)) → after ≡ text ++ line (unproved_line (get_or nodes i d)) →
-    after ≡ head ++ flat_map line (map unproved_line (take (i + 1) nodes))
-one_more_line head text after nodes i d low before pushed =
-    let n = get_or nodes i d in
-    let lines : flat_map line (map unproved_line (take (i + 1) nodes)) ≡ flat_map line (map unproved_line (take i nodes)) ++ line (unproved_line n) =
-    ap (λ (ns : List Node). flat_map line (map unproved_line ns)) (take_more nodes i d low)
-    ∙ ap (flat_map line) (map-both unproved_line (take i nodes) (n ∷ []))
-    ∙ flat_map-append line (map unproved_line (take i nodes)) (unproved_line n ∷ [])
-    ∙ ap (λ (ts : List ℕ). flat_map line (map unproved_line (take i nodes)) ++ ts) (append-nil (line (unproved_line n))) in
-    pushed ∙ ap (λ (ts : List ℕ). ts ++ line (unproved_line n)) before ∙ append_assoc head _ (line (unproved_line n)) ∙ sym (ap (λ (ts : List ℕ). head ++ ts) lines)
+-- the line of one element more
+pub one_more_line : {A : Type 0} (f : A → List ℕ) (head text after : List ℕ) (xs : List A) (i : ℕ) (d : A) → i < length xs →
+    text ≡ head ++ flat_map line (map f (take i xs)) → after ≡ text ++ line (f (get_or xs i d)) →
+    after ≡ head ++ flat_map line (map f (take (i + 1) xs))
+one_more_line f head text after xs i d low before pushed =
+    pushed ∙ ap (λ (ts : List ℕ). ts ++ line (f (get_or xs i d))) before ∙ append_assoc head (flat_map line (map f (take i xs))) (line (f (get_or xs i d)))
+    ∙ sym (ap (λ (ts : List ℕ). head ++ ts) (lines-next f xs i d low))
 
--- the head and the lines of all nodes are the whole report
-pub rejected_whole : (k : ℕ) (nodes : List Node) (text : List ℕ) (i : ℕ) → length nodes ≤ i →
-    text ≡ rejected_head k (length nodes) ++ flat_map line (map unproved_line (take i nodes)) → text ≡ report (Rejected k nodes)
-unfolding report lines_of
-rejected_whole k nodes text i all e =
-    e ∙ ap (λ (ns : List Node). rejected_head k (length nodes) ++ flat_map line (map unproved_line ns)) (take_all i nodes all) ∙ simp append_assoc
+-- the lines of all elements
+pub all_lines : {A : Type 0} (f : A → List ℕ) (head text : List ℕ) (xs : List A) (i : ℕ) → length xs ≤ i →
+    text ≡ head ++ flat_map line (map f (take i xs)) → text ≡ head ++ flat_map line (map f xs)
+all_lines {A = A} f head text xs i all e = e ∙ ap (λ (ys : List A). head ++ flat_map line (map f ys)) (take_all i xs all)
+
+-- a first line, and two lists of lines behind it
+pub three_parts : (head : List ℕ) (xs ys : List (List ℕ)) (text : List ℕ) → text ≡ (line head ++ flat_map line xs) ++ flat_map line ys → text ≡ flat_map line (head ∷ (xs ++ ys))
+three_parts head xs ys text e =
+    e ∙ append_assoc (line head) (flat_map line xs) (flat_map line ys) ∙ ap (λ (ts : List ℕ). line head ++ ts) (sym (flat_map-append line xs ys))
+
+-- ---- the line of a policy
+
+pub proved_line : (c : Count) (word : List ℕ) → word ≡ policy_word c.policy → c.unproved ≡ 0 →
+    word ++ (codes ": " ++ (decimal c.conditions ++ codes " conditions proved")) ≡ count_line c
+proved_line c word named none =
+    ap (λ (w : List ℕ). w ++ (codes ": " ++ (decimal c.conditions ++ codes " conditions proved"))) named
+    ∙ ap (λ (u : ℕ). policy_word c.policy ++ (codes ": " ++ count_text u c.conditions)) (sym none)
+
+some-unproved : (u k : ℕ) → (u ≡ 0 → ⊥) → decimal u ++ (codes " of " ++ (decimal k ++ codes " conditions unproved")) ≡ count_text u k
+some-unproved zero k some = absurd (some refl)
+some-unproved (suc u) k some = refl
+
+pub unproved_count_line : (c : Count) (word : List ℕ) → word ≡ policy_word c.policy → (c.unproved ≡ 0 → ⊥) →
+    word ++ (codes ": " ++ (decimal c.unproved ++ (codes " of " ++ (decimal c.conditions ++ codes " conditions unproved")))) ≡ count_line c
+unproved_count_line c word named some =
+    ap (λ (w : List ℕ). w ++ (codes ": " ++ (decimal c.unproved ++ (codes " of " ++ (decimal c.conditions ++ codes " conditions unproved"))))) named
+    ∙ ap (λ (t : List ℕ). policy_word c.policy ++ (codes ": " ++ t)) (some-unproved c.unproved c.conditions some)
+
+-- ---- what is assumed
+
+pub assumed : (old first second third : List ℕ) (ks : List Count) (has_bounds : Bool) → first ≡ old ++ line inputs_in_ranges → second ≡ first ++ line no_bound →
+    has_bounds ≡ list_any (λ k. is_bounds k.policy) ks → third ≡ second ++ flat_map line (end_of_run has_bounds) → third ≡ old ++ flat_map line (assumptions ks)
+assumed old first second third ks has_bounds e f bounds g =
+    let rest : List ℕ = flat_map line (end_of_run (list_any (λ k. is_bounds k.policy) ks)) in
+    g ∙ ap (λ (b : Bool). second ++ flat_map line (end_of_run b)) bounds
+    ∙ ap (λ (t : List ℕ). t ++ rest) (f ∙ ap (λ (t : List ℕ). t ++ line no_bound) e)
+    ∙ append_assoc (old ++ line inputs_in_ranges) (line no_bound) rest
+    ∙ append_assoc old (line inputs_in_ranges) (line no_bound ++ rest)

@@ -21,7 +21,7 @@ use Rattle.ac_run.specs.Declarations.{kind_in, kind_of}
 use Rattle.ac_run.specs.StraightWrites.{is_array_above, is_write_within}
 use Rattle.ac_verdict.specs.Opened.{hidden, expr_shape, expr_child}
 use Rattle.ac_verdict.specs.Supported.{literal_extent, is_straight, AreStraight, IsSupported, IsFirstUnsupported}
-use Rattle.ac_verdict.specs.Sites.{unproved}
+use Rattle.ac_verdict.specs.Sites.{outside}
 use Rattle.ac_verdict.specs.Writes.{is_put, array_of, index_of, IsWritten}
 use Rattle.ac_verdict.proofs.Lists.{map-both, taken}
 
@@ -105,7 +105,7 @@ inside_next p body i st nodes low e within so_far =
     so_far ∙ sym (append-nil (outside_in p (take i body)))
     ∙ sym (ap (λ (xs : List Stmt). outside_in p xs) (taken body i st low e) ∙ outside-push p (take i body) st ∙ ap (λ (b : Bool). outside_in p (take i body) ++ (if b then [] else st.node ∷ [])) within)
 
-pub all_outside : (p : Program) (body : List Stmt) (i : ℕ) (nodes : List Node) → body ≡ p.body → length body ≤ i → nodes ≡ outside_in p (take i body) → nodes ≡ unproved p
+pub all_outside : (p : Program) (body : List Stmt) (i : ℕ) (nodes : List Node) → body ≡ p.body → length body ≤ i → nodes ≡ outside_in p (take i body) → nodes ≡ outside p
 all_outside p body i nodes bodied all sites = sites ∙ ap (λ (xs : List Stmt). outside_in p xs) (take_all i body all ∙ bodied)
 
 pub below_next : {i : ℕ} → (i ≡ 1000 → ⊥) → i ≤ 1000 → i + 1 ≤ 1000

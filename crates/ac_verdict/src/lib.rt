@@ -6,9 +6,13 @@
 
 mod accepted_program;
 mod certify;
+mod count;
+mod findings;
 mod laws;
 mod outcome;
 mod policy;
+mod policy_fault;
+mod policy_report;
 mod program_fault;
 mod report;
 mod sites;
@@ -17,6 +21,8 @@ mod writes;
 
 pub use accepted_program::{AcceptedProgram, read_program};
 pub use certify::{certify_bytes, judge};
+pub use count::Count;
 pub use laws::bytes_have_one_outcome;
 pub use outcome::Outcome;
+pub use policy_fault::{PatternFault, PolicyFault};
 pub use program_fault::ProgramFault;

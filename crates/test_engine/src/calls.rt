@@ -6,7 +6,7 @@ use ac_verdict::certify_bytes;
 use std::alloc::{AllocError, Global};
 use std::process::Abort;
 
-/// The policy file that is supported.
+/// A policy file that selects bounds alone.
 pub const POLICY: &str = "version = 1\npolicies = [\"bounds\"]\n";
 
 /// The words of a text, one a blank.
@@ -16,6 +16,22 @@ pub fn words(alloc: Global, text: &str) -> Result<Vec<String>, AllocError> {
         words.push(String::from_str(alloc, word)?)?;
     }
     Ok(words)
+}
+
+/// So many copies of a text between two others.
+pub fn copies(
+    alloc: Global,
+    before: &str,
+    text: &str,
+    count: usize,
+    after: &str,
+) -> Result<String, AllocError> {
+    let mut copies = String::from_str(alloc, before)?;
+    for _ in 0..count {
+        copies.push_str(text)?;
+    }
+    copies.push_str(after)?;
+    Ok(copies)
 }
 
 /// The files `p`, the program, and `q`, the policy file.

@@ -1,26 +1,10 @@
 //! Each limit on programs, allowed and passed by one.
 
-use crate::calls::{POLICY, assert_answer, certify, files};
+use crate::calls::{POLICY, assert_answer, certify, copies, files};
 use ac_io::MemSink;
 use std::alloc::{AllocError, Global};
 use std::fmt::Write;
 use std::test::Fail;
-
-/// So many copies of a text between two others.
-fn copies(
-    alloc: Global,
-    before: &str,
-    text: &str,
-    count: usize,
-    after: &str,
-) -> Result<String, AllocError> {
-    let mut copies = String::from_str(alloc, before)?;
-    for _ in 0..count {
-        copies.push_str(text)?;
-    }
-    copies.push_str(after)?;
-    Ok(copies)
-}
 
 /// A program that passes a limit, put together of copies of a text, with the limit.
 const PASSED: [(&str, &str, usize, &str, &str); 6] = [

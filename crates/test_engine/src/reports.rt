@@ -113,30 +113,11 @@ const BYTES: [(&[u8], u8, &str); 5] = [
     ),
 ];
 
-/// Policy files that are not supported.
-const POLICIES: [&str; 5] = [
-    "",
-    "version = 1\npolicies = [\"bounds\"]",
-    "version = 1\npolicies = [\"bounds\"]\n\n",
-    "version = 1\npolicies = [\"init\"]\n",
-    "version = 1\r\npolicies = [\"bounds\"]\r\n",
-];
-
 #[test]
 fn bytes_of_any_kind_have_their_report(rt: HostRuntime) -> Result<(), Fail> {
     let alloc = rt.alloc();
     for (program, code, report) in BYTES {
         assert_answer(&rt, alloc, program, POLICY.as_bytes(), code, report)?;
-    }
-    for policy in POLICIES {
-        assert_answer(
-            &rt,
-            alloc,
-            b"begin end",
-            policy.as_bytes(),
-            4,
-            "policy: not built\n",
-        )?;
     }
     Ok(())
 }

@@ -17,8 +17,8 @@ returns-in-Err-clause-cause g c =
 
 pub returns-in-Err-Long-load-clause-cause : goal.returns-in-Err-Long-load-clause-cause
 returns-in-Err-Long-load-clause-cause g c =
-    long_policy (g.F.Files.contents c.args.files.now) c.args.program.now c.args.policy.now c.as_slice.result.now (program_of c.in-Ok-read_program.accepted) _
-    (λ x e. c.as_slice.ensures.value ∙ c.in-Ok.ensures.told x e) c.in-Ok-read_program.ensures.accepted c.number-2.ensures
+    long_policy (g.F.Files.contents c.args.files.now) c.args.program.now c.args.policy.now c.as_slice.result.now (program_of c.in-Ok-read_program.accepted) _ _
+    (λ x e. c.as_slice.ensures.value ∙ c.in-Ok.ensures.told x e) c.in-Ok-read_program.ensures.accepted c.number-2.ensures c.number-value-in-Err-Long-load.ensures
     (λ x e. rw c.in-Err-Long-load.field-0-is at (c.in-Err-Long-load.ensures.long x (c.in-Ok.ensures.contents_stay c.args.policy.now ∙ e)))
 
 pub returns-in-Err-OutOfMemory-load-clause-cause : goal.returns-in-Err-OutOfMemory-load-clause-cause

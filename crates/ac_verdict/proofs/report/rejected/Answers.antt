@@ -1,12 +1,13 @@
-use Rattle.std.proofs.Common.{arith, ◌∙◌, append_assoc, length, string_bytes}
-use Rattle.ac_verdict.proofs.Reports.{one_more_line, rejected_head, rejected_whole}
+use Rattle.std.proofs.Common.{◌≡◌, ◌++◌, ◌∙◌, List, ℕ, ap, codes, map, rules, string_bytes}
+use Rattle.std.specs.List.{flat_map}
+use Rattle.ac_verdict.specs.Report.{report, lines_of, line, count_line, unproved_line}
+use Rattle.ac_verdict.proofs.Reports.{three_parts}
 use Rattle.ac_verdict.proofs.report.rejected.Goals as goal
 
-pub loop-node-init : goal.loop-node-init
-loop-node-init c = c.in_ok-text.ensures.ok ∙ simp append_assoc
-
-pub loop-node-preserved : goal.loop-node-preserved
-loop-node-preserved c = one_more_line (rejected_head c.args.conditions (length c.args.unproved.now)) (string_bytes c.loop-node.text) _ c.args.unproved.now c.loop-node.node-index _ (omega arith) c.loop-node.invariant c.in_ok-push_unproved.ensures
-
 pub returns : goal.returns
-returns c = rejected_whole _ _ _ _ (omega arith) c.loop-node.invariant
+unfolding report lines_of
+returns c =
+    let first : string_bytes c.in_ok-text.text ≡ line (codes "rejected") = search rules in
+    three_parts (codes "rejected") (map count_line c.args.counts.now) (map unproved_line c.args.unproved.now) _
+    (c.in_ok-push_sites.ensures ∙ ap (λ (ts : List ℕ). ts ++ flat_map line (map unproved_line c.args.unproved.now))
+    (c.in_ok-push_counts.ensures ∙ ap (λ (ts : List ℕ). ts ++ flat_map line (map count_line c.args.counts.now)) first))

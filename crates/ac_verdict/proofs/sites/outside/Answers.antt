@@ -1,8 +1,8 @@
 use Rattle.std.proofs.Common.{arith, ap, sym, ◌∙◌, Vec, Global}
 use Rattle.ac_tree.specs.declared.node.Node.{Node}
 use Rattle.ac_verdict.proofs.Statements.{outside_next, inside_next, all_outside}
-use Rattle.ac_verdict.proofs.sites.unproved.Goals as goal
-use Rattle.ac_verdict.proofs.sites.unproved.Goals.{then-not-is_within+in_ok-push, else-not-is_within}
+use Rattle.ac_verdict.proofs.sites.outside.Goals as goal
+use Rattle.ac_verdict.proofs.sites.outside.Goals.{then-not-is_within+in_ok-push, else-not-is_within}
 
 pub loop-statement-preserved : goal.loop-statement-preserved
 loop-statement-preserved c =
