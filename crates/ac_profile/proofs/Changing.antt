@@ -9,9 +9,9 @@ use Rattle.ac_logic.specs.declared.formula.Term.{Term}
 use Rattle.ac_logic.specs.Size.{saturated}
 use Rattle.ac_logic.specs.Substitution.{sym_eq}
 use Rattle.ac_conditions.specs.Weights.{Weights, term_weight, array_weight, after}
-use Rattle.ac_profile.specs.declared.profile.Occurrence.{Occurrence}
-use Rattle.ac_profile.specs.declared.profile.Place.{Place}
-use Rattle.ac_profile.specs.declared.profile.Profile.{Profile}
+use Rattle.ac_profile.specs.declared.counts.Occurrence.{Occurrence}
+use Rattle.ac_profile.specs.declared.counts.Place.{Place}
+use Rattle.ac_profile.specs.declared.counts.Counts.{Counts}
 use Rattle.ac_profile.specs.Added.{IsMore, HasTerm, HasArray, HasSymbol, HasChanged, is_of, is_changed, AreParted, IsWithChanged, IsAfter}
 use Rattle.ac_profile.specs.Opened.{hidden, term_shape, term_child, array_shape, array_child}
 use Rattle.ac_profile.specs.Profile.{symbol_weight, sizes, depths, profile_size, profile_depth}
@@ -52,19 +52,19 @@ module _ (join : ℕ → ℕ → ℕ) (u : Weights) where
 
 -- what is added in the place of a symbol
 
-pub scalar_changed : (old new : Profile) (place : Place) (c : Change) (x : Sym) (t : Term) (cs : List Change) (b : Bool) (s : Sym) → c ≡ change.Scalar x t → is_of c b s ≡ true → HasTerm old new place t → HasChanged (c ∷ cs) old new place b s
+pub scalar_changed : (old new : Counts) (place : Place) (c : Change) (x : Sym) (t : Term) (cs : List Change) (b : Bool) (s : Sym) → c ≡ change.Scalar x t → is_of c b s ≡ true → HasTerm old new place t → HasChanged (c ∷ cs) old new place b s
 scalar_changed old new place c x t cs b s e h k =
     same_more old new place (λ u. term_weight ◌+◌ u t) (λ u. symbol_weight (after ◌+◌ u (c ∷ cs)) b s) (λ u. term_weight max u t) (λ u. symbol_weight (after max u (c ∷ cs)) b s)
     (λ u. sym (at_scalar ◌+◌ u c x t cs b s e h)) (λ u. sym (at_scalar max u c x t cs b s e h)) k
 
-pub array_changed : (old new : Profile) (place : Place) (c : Change) (x : Sym) (a : ArrayTerm) (cs : List Change) (b : Bool) (s : Sym) → c ≡ change.Array x a → is_of c b s ≡ true → HasArray old new place a → HasChanged (c ∷ cs) old new place b s
+pub array_changed : (old new : Counts) (place : Place) (c : Change) (x : Sym) (a : ArrayTerm) (cs : List Change) (b : Bool) (s : Sym) → c ≡ change.Array x a → is_of c b s ≡ true → HasArray old new place a → HasChanged (c ∷ cs) old new place b s
 array_changed old new place c x a cs b s e h k =
     same_more old new place (λ u. array_weight ◌+◌ u a) (λ u. symbol_weight (after ◌+◌ u (c ∷ cs)) b s) (λ u. array_weight max u a) (λ u. symbol_weight (after max u (c ∷ cs)) b s)
     (λ u. sym (at_array ◌+◌ u c x a cs b s e h)) (λ u. sym (at_array max u c x a cs b s e h)) k
 
 -- where the changes before one are of other symbols
 
-module _ (old p new : Profile) (place : Place) (o : Occurrence) (cs : List Change) (i : ℕ) (kept : p ≡ old) (there : place ≡ record { count = o.count; above = o.above })
+module _ (old p new : Counts) (place : Place) (o : Occurrence) (cs : List Change) (i : ℕ) (kept : p ≡ old) (there : place ≡ record { count = o.count; above = o.above })
     (past : (join : ℕ → ℕ → ℕ) (u : Weights) → symbol_weight (after join u cs) o.is_array o.symbol ≡ symbol_weight (after join u (drop i cs)) o.is_array o.symbol) where
   abbrev Changed : List Change → Type 0
   Changed all = HasChanged all old new (record { count = o.count; above = o.above }) o.is_array o.symbol
@@ -72,7 +72,7 @@ module _ (old p new : Profile) (place : Place) (o : Occurrence) (cs : List Chang
   pub changed_at : (c : Change) → drop i cs ≡ c ∷ drop (i + 1) cs → HasChanged (c ∷ drop (i + 1) cs) p new place o.is_array o.symbol → Changed cs
   changed_at c next h =
       let here : Changed (c ∷ drop (i + 1) cs) =
-      subst (λ (q : Profile). HasChanged (c ∷ drop (i + 1) cs) q new (record { count = o.count; above = o.above }) o.is_array o.symbol) kept
+      subst (λ (q : Counts). HasChanged (c ∷ drop (i + 1) cs) q new (record { count = o.count; above = o.above }) o.is_array o.symbol) kept
       (subst (λ (x : Place). HasChanged (c ∷ drop (i + 1) cs) p new x o.is_array o.symbol) there h) in
       same_more old new (record { count = o.count; above = o.above }) (λ u. symbol_weight (after ◌+◌ u (c ∷ drop (i + 1) cs)) o.is_array o.symbol) (λ u. symbol_weight (after ◌+◌ u cs) o.is_array o.symbol)
       (λ u. symbol_weight (after max u (c ∷ drop (i + 1) cs)) o.is_array o.symbol) (λ u. symbol_weight (after max u cs) o.is_array o.symbol)
@@ -82,7 +82,7 @@ module _ (old p new : Profile) (place : Place) (o : Occurrence) (cs : List Chang
   pub changed_nowhere : length cs ≤ i → HasSymbol p new place o.symbol o.is_array → Changed cs
   changed_nowhere low h =
       let here : HasSymbol old new (record { count = o.count; above = o.above }) o.symbol o.is_array =
-      subst (λ (q : Profile). HasSymbol q new (record { count = o.count; above = o.above }) o.symbol o.is_array) kept (subst (λ (x : Place). HasSymbol p new x o.symbol o.is_array) there h) in
+      subst (λ (q : Counts). HasSymbol q new (record { count = o.count; above = o.above }) o.symbol o.is_array) kept (subst (λ (x : Place). HasSymbol p new x o.symbol o.is_array) there h) in
       same_more old new (record { count = o.count; above = o.above }) (λ u. symbol_weight u o.is_array o.symbol) (λ u. symbol_weight (after ◌+◌ u cs) o.is_array o.symbol)
       (λ u. symbol_weight u o.is_array o.symbol) (λ u. symbol_weight (after max u cs) o.is_array o.symbol)
       (λ u. sym (past ◌+◌ u ∙ (at_drop_all (λ (l : List Change). symbol_weight (after ◌+◌ u l) o.is_array o.symbol) cs i low ∙ no_change ◌+◌ u o.is_array o.symbol)))
@@ -96,7 +96,7 @@ sum_after m x n k c all h e = omega (arith, h, e)
 max_after : (m x n k c all : ℕ) → min x m ≡ min (max (max n k) c) m → all ≡ max k c → min x m ≡ min (max n all) m
 max_after m x n k c all h e = omega (arith, h, e)
 
-pub all_changed : (cs : List Change) (old start new : Profile) (changed os : List Occurrence) → IsWithChanged cs start new os → os ≡ changed → AreParted cs old.symbols.items start.symbols.items changed → start.nodes ≡ old.nodes → start.depth ≡ old.depth → IsAfter cs old new
+pub all_changed : (cs : List Change) (old start new : Counts) (changed os : List Occurrence) → IsWithChanged cs start new os → os ≡ changed → AreParted cs old.symbols.items start.symbols.items changed → start.nodes ≡ old.nodes → start.depth ≡ old.depth → IsAfter cs old new
 all_changed cs old start new changed os h e p n d = record {
   size = λ u. sum_after (2 ^ 64 - 1) (profile_size u new) old.nodes (sizes u start.symbols.items) (sizes (after ◌+◌ u cs) changed) (sizes (after ◌+◌ u cs) old.symbols.items)
       (h.size u ∙ (ap (λ (xs : List Occurrence). saturated (profile_size u start + sizes (after ◌+◌ u cs) xs)) e ∙ ap (λ k. saturated (k + sizes u start.symbols.items + sizes (after ◌+◌ u cs) changed)) n)) (p.size u);

@@ -4,9 +4,9 @@ use Rattle.std.proofs.lemmas.List.{drop_more}
 use Rattle.ac_logic.specs.declared.formula.Sym.{Sym}
 use Rattle.ac_logic.specs.Size.{saturated}
 use Rattle.ac_conditions.specs.Weights.{Weights}
-use Rattle.ac_profile.specs.declared.profile.Occurrence.{Occurrence}
-use Rattle.ac_profile.specs.declared.profile.Place.{Place}
-use Rattle.ac_profile.specs.declared.profile.Profile.{Profile}
+use Rattle.ac_profile.specs.declared.counts.Occurrence.{Occurrence}
+use Rattle.ac_profile.specs.declared.counts.Place.{Place}
+use Rattle.ac_profile.specs.declared.counts.Counts.{Counts}
 use Rattle.ac_profile.specs.Added.{HasSymbol, IsWith, IsBeside}
 use Rattle.ac_profile.specs.Profile.{symbol_weight, sizes, depths, profile_size, profile_depth}
 use Rattle.ac_profile.proofs.Capped.{same_sum, same_max, same_times, twice, past_sum}
@@ -53,7 +53,7 @@ depths_merged u (x ∷ os) (suc k) a o new g e f h = let i = depths_merged u os 
 
 -- a profile in which a symbol is counted at one more place
 
-module _ (p q : Profile) (place : Place) (s : Sym) (b : Bool) (n : q.nodes ≡ p.nodes) (d : q.depth ≡ p.depth) where
+module _ (p q : Counts) (place : Place) (s : Sym) (b : Bool) (n : q.nodes ≡ p.nodes) (d : q.depth ≡ p.depth) where
   pub symbol_merged : (k : ℕ) (o new : Occurrence) → slice_get p.symbols.items k ≡ Some o → o.symbol ≡ s → o.is_array ≡ b → new.symbol ≡ o.symbol → new.is_array ≡ o.is_array →
       new.count ≡ saturated (o.count + place.count) → new.above ≡ max o.above place.above → q.symbols.items ≡ set p.symbols.items k new → HasSymbol p q place s b
   symbol_merged k o new g e f i j c a l = record {
@@ -108,7 +108,7 @@ sum_beside m p q x y z h = omega (arith, h)
 max_beside : (m p q x y z : ℕ) → min z m ≡ min (max (max (max p q) x) y) m → min z m ≡ min (max (max p x) (max q y)) m
 max_beside m p q x y z h = omega (arith, h)
 
-pub beside : (p q r s : Profile) (os : List Occurrence) → IsWith r s os → r.nodes ≡ saturated (p.nodes + q.nodes) → r.depth ≡ max p.depth q.depth → r.symbols.items ≡ p.symbols.items → os ≡ q.symbols.items → IsBeside p q s
+pub beside : (p q r s : Counts) (os : List Occurrence) → IsWith r s os → r.nodes ≡ saturated (p.nodes + q.nodes) → r.depth ≡ max p.depth q.depth → r.symbols.items ≡ p.symbols.items → os ≡ q.symbols.items → IsBeside p q s
 beside p q r s os h n d l e = record {
   size = λ u. sum_beside (2 ^ 64 - 1) p.nodes q.nodes (sizes u p.symbols.items) (sizes u q.symbols.items) (profile_size u s)
       (h.size u ∙ (ap (λ (k : ℕ). saturated (k + sizes u r.symbols.items + sizes u os)) n ∙ (ap (λ (xs : List Occurrence). saturated (saturated (p.nodes + q.nodes) + sizes u xs + sizes u os)) l

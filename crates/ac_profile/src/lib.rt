@@ -5,6 +5,7 @@
 //! trait says what each of them stands for, so that one walk serves all three.
 #![tactic(auto, unfolding(crate::specs::Opened::formula_shape, crate::specs::Opened::formula_child, crate::specs::Opened::term_shape, crate::specs::Opened::term_child, crate::specs::Opened::array_shape, crate::specs::Opened::array_child, crate::specs::Opened::hidden))]
 
+mod counts;
 mod measure;
 mod precondition;
 mod profile;

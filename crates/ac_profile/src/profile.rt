@@ -2,451 +2,102 @@
 //!
 //! After changes a formula is as large and as deep as its profile says, where each symbol counts for what stands for it. So
 //! no formula is made to be measured.
-ghost use Rattle.std.specs.Prelude.{◌≡◌, ◌+◌, ◌∷◌, max, Bool, true, List, IfOk, OnOk, IfSome};
-ghost use Rattle.ac_logic.specs.declared.formula.Change.{Change as AnyChange};
+ghost use Rattle.std.specs.Prelude.{◌≡◌, ◌+◌, ◌≤◌, ℕ, max, true, false, IfOk, OnOk};
 ghost use Rattle.ac_logic.specs.declared.formula.Formula.{Formula as AnyFormula};
-ghost use Rattle.ac_logic.specs.declared.formula.Sym.{Sym as AnySymbol};
 ghost use Rattle.ac_logic.specs.Size.{saturated, size_of, depth_of};
-ghost use Rattle.ac_conditions.specs.Weights.{ones};
-ghost use Rattle.ac_profile.specs.Profile.{sizes, depths, IsProfile};
-ghost use Rattle.ac_profile.specs.Added.{IsMore, HasSymbol, HasTerm, HasTwoTerms, HasArray, HasFormula, HasBelow, IsBelow, IsPlaceOf, IsWith, IsBeside, IsAbove, raised, is_of as is_change_of, is_changed as are_changing, HasChanged, AreParted, IsWithChanged, IsAfter};
+ghost use Rattle.ac_conditions.specs.Weights.{Weights, weight};
+ghost use Rattle.ac_profile.specs.Profile.{HasMeasures, IsProfile, capped};
 
+use crate::counts::{
+    Counts, Place, add_counts, add_formula, changed_counts, copied_counts, count_node,
+    counted_depth, counted_size, no_counts, raise_all, symbol_count,
+};
 use crate::precondition::Precondition;
-use ac_logic::{ArrayTerm, Change, Formula, Label, Sym, Term, same_symbol};
+use ac_logic::{Change, Formula, Label};
 use ac_shared::Shared;
 use std::alloc::{AllocError, Global};
 
-/// How often a symbol occurs, and how many nodes stand above it at most.
-#[derive(Drop)]
-struct Occurrence {
-    symbol: Sym,
-    is_array: bool,
-    count: u64,
-    above: u64,
-}
-
-/// The nodes of a formula that are no symbols, by their number and by the depth of the deepest, and the symbols.
+/// A formula before it is made.
+///
+/// Its depths are counted from a base, above which its root stands. So a node above all that there is takes one off the base,
+/// and what is below it stays as it is.
 #[derive(Drop)]
 pub struct Profile {
-    nodes: u64,
-    depth: u64,
-    symbols: Vec<Occurrence>,
+    base: u32,
+    counts: Counts,
 }
 
-/// Where something stands in a formula: how often, and how many nodes are above it.
-#[derive(Clone, Copy)]
-struct Place {
-    count: u64,
-    above: u64,
-}
-
-fn place_at(occurrence: &Occurrence) -> Place
-    ensures { result ≡ record { count = occurrence.now.count; above = occurrence.now.above } }
-{
-    Place {
-        count: occurrence.count,
-        above: occurrence.above,
-    }
-}
-
-fn below(place: Place) -> Place
-    ensures { IsBelow place result }
-{
-    Place {
-        count: place.count,
-        above: place.above.saturating_add(1),
-    }
-}
-
-fn copied(symbol: &Sym) -> Result<Sym, AllocError>
-    ensures { IfOk result (λ copy. copy ≡ symbol.now) }
-{
-    match symbol {
-        Sym::Value(name) => Ok(Sym::Value(name.clone()?)),
-        Sym::Init(name) => Ok(Sym::Init(name.clone()?)),
-        Sym::Fresh(number) => Ok(Sym::Fresh(*number)),
-    }
-}
-
-/// Where a symbol stands in a list.
-fn place_of(symbols: &[Occurrence], symbol: &Sym, is_array: bool) -> Option<usize>
-    ensures { IfSome result (IsPlaceOf symbols.now symbol.now is_array) }
-{
-    let mut at = 0;
-    while at < symbols.len() {
-        let here = &symbols[at];
-        if here.is_array == is_array && same_symbol(&here.symbol, symbol) {
-            return Some(at);
-        }
-        at += 1;
-    }
-    None
-}
-
-/// Counts a symbol at one more place.
-fn merge(occurrence: &mut Occurrence, place: Place)
-    ensures symbol { occurrence.new.symbol ≡ occurrence.old.symbol }
-    ensures kind { occurrence.new.is_array ≡ occurrence.old.is_array }
-    ensures count { occurrence.new.count ≡ saturated (occurrence.old.count + place.count) }
-    ensures above { occurrence.new.above ≡ max occurrence.old.above place.above }
-{
-    occurrence.count = occurrence.count.saturating_add(place.count);
-    occurrence.above = occurrence.above.max(place.above);
-}
-
-/// Adds occurrences of a symbol.
-fn add_symbol(
-    profile: &mut Profile,
-    symbol: &Sym,
-    is_array: bool,
-    place: Place,
-) -> Result<(), AllocError>
-    ensures { OnOk result (HasSymbol profile.old profile.new place symbol.now is_array) }
-{
-    match place_of(profile.symbols.as_slice(), symbol, is_array) {
-        Some(at) => {
-            let occurrence = &mut profile.symbols[at];
-            merge(occurrence, place);
-            Ok(())
-        }
-        None => {
-            let copy = copied(symbol)?;
-            profile.symbols.push(Occurrence {
-                symbol: copy,
-                is_array,
-                count: place.count,
-                above: place.above,
-            })?;
-            Ok(())
-        }
-    }
-}
-
-fn add_node(profile: &mut Profile, place: Place)
-    ensures { IsMore profile.old profile.new place (λ u. 1) (λ u. 1) }
-{
-    profile.nodes = profile.nodes.saturating_add(place.count);
-    profile.depth = profile.depth.max(place.above.saturating_add(1));
-}
-
-#[cycle(add_term)]
-fn add_term(profile: &mut Profile, term: &Term, place: Place) -> Result<(), AllocError>
-    ensures { OnOk result (HasTerm profile.old profile.new place term.now) }
-{
-    match term {
-        Term::Sym(symbol) => add_symbol(profile, symbol, false, place),
-        Term::Num(_) => {
-            add_node(profile, place);
-            Ok(())
-        }
-        Term::Bound(_) => {
-            add_node(profile, place);
-            Ok(())
-        }
-        Term::Read(a, i, j) => {
-            let under = below(place);
-            add_node(profile, place);
-            add_array(profile, a.get(), under)?;
-            add_term(profile, i.get(), under)?;
-            add_term(profile, j.get(), under)
-        }
-        Term::Add(s, t) => {
-            let under = below(place);
-            add_node(profile, place);
-            add_term(profile, s.get(), under)?;
-            add_term(profile, t.get(), under)
-        }
-        Term::Sub(s, t) => {
-            let under = below(place);
-            add_node(profile, place);
-            add_term(profile, s.get(), under)?;
-            add_term(profile, t.get(), under)
-        }
-        Term::Mul(s, t) => {
-            let under = below(place);
-            add_node(profile, place);
-            add_term(profile, s.get(), under)?;
-            add_term(profile, t.get(), under)
-        }
-        Term::Neg(t) => {
-            let under = below(place);
-            add_node(profile, place);
-            add_term(profile, t.get(), under)
-        }
-    }
-}
-
-#[cycle(add_term)]
-fn add_array(profile: &mut Profile, array: &ArrayTerm, place: Place) -> Result<(), AllocError>
-    ensures { OnOk result (HasArray profile.old profile.new place array.now) }
-{
-    match array {
-        ArrayTerm::Sym(symbol) => add_symbol(profile, symbol, true, place),
-        ArrayTerm::Put(a, i, j, v) => {
-            let under = below(place);
-            add_node(profile, place);
-            add_array(profile, a.get(), under)?;
-            add_term(profile, i.get(), under)?;
-            add_term(profile, j.get(), under)?;
-            add_term(profile, v.get(), under)
-        }
-    }
-}
-
-/// Adds a node with two terms below it.
-fn add_terms(
-    profile: &mut Profile,
-    left: &Term,
-    right: &Term,
-    place: Place,
-) -> Result<(), AllocError>
-    ensures { OnOk result (HasTwoTerms profile.old profile.new place left.now right.now) }
-{
-    let under = below(place);
-    add_node(profile, place);
-    add_term(profile, left, under)?;
-    add_term(profile, right, under)
-}
-
-#[cycle(add_formula)]
-fn add_formula(profile: &mut Profile, formula: &Formula, place: Place) -> Result<(), AllocError>
-    ensures { OnOk result (HasFormula profile.old profile.new place formula.now) }
-{
-    match formula {
-        Formula::True => {
-            add_node(profile, place);
-            Ok(())
-        }
-        Formula::False => {
-            add_node(profile, place);
-            Ok(())
-        }
-        Formula::Le(s, t) => add_terms(profile, s.get(), t.get(), place),
-        Formula::Eq(s, t) => add_terms(profile, s.get(), t.get(), place),
-        Formula::Not(f) => add_below(profile, f.get(), place),
-        Formula::And(f, g) => {
-            let under = below(place);
-            add_node(profile, place);
-            add_formula(profile, f.get(), under)?;
-            add_formula(profile, g.get(), under)
-        }
-        Formula::Or(f, g) => {
-            let under = below(place);
-            add_node(profile, place);
-            add_formula(profile, f.get(), under)?;
-            add_formula(profile, g.get(), under)
-        }
-        Formula::Implies(f, g) => {
-            let under = below(place);
-            add_node(profile, place);
-            add_formula(profile, f.get(), under)?;
-            add_formula(profile, g.get(), under)
-        }
-        Formula::All(f) => add_below(profile, f.get(), place),
-        Formula::Lab(_, f) => add_below(profile, f.get(), place),
-    }
-}
-
-/// Adds a node with one formula below it.
-#[cycle(add_formula)]
-fn add_below(profile: &mut Profile, formula: &Formula, place: Place) -> Result<(), AllocError>
-    ensures { OnOk result (HasBelow profile.old profile.new place formula.now) }
-{
-    let under = below(place);
-    add_node(profile, place);
-    add_formula(profile, formula, under)
-}
-
-/// Adds a formula that stands by itself.
-fn add_whole(profile: &mut Profile, formula: &Formula) -> Result<(), AllocError>
-    ensures { OnOk result (HasFormula profile.old profile.new (record { count = 1; above = 0 }) formula.now) }
-{
-    let whole = Place { count: 1, above: 0 };
-    add_formula(profile, formula, whole)
-}
-
-/// Adds the occurrences of another profile.
-fn add_all(profile: &mut Profile, symbols: &[Occurrence]) -> Result<(), AllocError>
-    ensures { OnOk result (IsWith profile.old profile.new symbols.now) }
-{
-    for occurrence in symbols {
-        let place = place_at(occurrence);
-        add_symbol(profile, &occurrence.symbol, occurrence.is_array, place)?;
-    }
-    Ok(())
-}
-
-/// Adds another profile beside.
-fn add_profile(profile: &mut Profile, other: &Profile) -> Result<(), AllocError>
-    ensures { OnOk result (IsBeside profile.old other.now profile.new) }
-{
-    profile.nodes = profile.nodes.saturating_add(other.nodes);
-    profile.depth = profile.depth.max(other.depth);
-    add_all(profile, other.symbols.as_slice())
-}
-
-fn raise(occurrence: &mut Occurrence)
-    ensures { occurrence.new ≡ raised occurrence.old }
-{
-    occurrence.above = occurrence.above.saturating_add(1);
-}
+/// Where a root stands at first.
+const FIRST_BASE: u32 = 1_000_000;
 
 /// A node above all that there is.
 fn add_above(profile: &mut Profile)
-    ensures { IsAbove profile.old profile.new }
+    ensures { (s d : Weights → ℕ) → HasMeasures profile.old s d → HasMeasures profile.new (λ u. s u + 1) (λ u. d u + 1) }
 {
-    profile.nodes = profile.nodes.saturating_add(1);
-    profile.depth = profile.depth.saturating_add(1);
-    for occurrence in profile.symbols.iter_mut() {
-        raise(occurrence);
+    count_node(&mut profile.counts);
+    if profile.base > 0 {
+        profile.base -= 1;
+    } else {
+        raise_all(&mut profile.counts, 1);
     }
 }
 
-/// Whether a change is of a symbol.
-fn is_of(change: &Change, symbol: &Sym, is_array: bool) -> bool
-    ensures { result ≡ is_change_of change.now is_array symbol.now }
+/// A formula beside what there is.
+fn add_beside(profile: &mut Profile, formula: &Formula) -> Result<(), AllocError>
+    ensures { OnOk result ((s d : Weights → ℕ) → HasMeasures profile.old s d → HasMeasures profile.new (λ u. s u + weight ◌+◌ u formula.now) (λ u. max (d u) (weight max u formula.now))) }
 {
-    match change {
-        Change::Scalar(changed, _) => !is_array && same_symbol(changed, symbol),
-        Change::Array(changed, _) => is_array && same_symbol(changed, symbol),
-    }
-}
-
-/// Whether some change is of a symbol.
-fn is_changed(changes: &[Change], symbol: &Sym, is_array: bool) -> bool
-    ensures { result ≡ are_changing changes.now is_array symbol.now }
-{
-    for change in changes {
-        if is_of(change, symbol, is_array) {
-            return true;
-        }
-    }
-    false
-}
-
-/// Adds what a change puts in the place of a symbol.
-fn add_change(profile: &mut Profile, change: &Change, place: Place) -> Result<(), AllocError>
-    ensures { OnOk result ((cs : List AnyChange) (s : AnySymbol) (is_array : Bool) → is_change_of change.now is_array s ≡ true → HasChanged (change.now ∷ cs) profile.old profile.new place is_array s) }
-{
-    match change {
-        Change::Scalar(_, term) => add_term(profile, term.get(), place),
-        Change::Array(_, array) => add_array(profile, array.get(), place),
-    }
-}
-
-/// Adds what the changes put in the place of a symbol.
-fn add_changed(
-    profile: &mut Profile,
-    changes: &[Change],
-    occurrence: &Occurrence,
-) -> Result<(), AllocError>
-    ensures { OnOk result (HasChanged changes.now profile.old profile.new (record { count = occurrence.now.count; above = occurrence.now.above }) occurrence.now.is_array occurrence.now.symbol) }
-{
-    let place = place_at(occurrence);
-    for change in changes {
-        if is_of(change, &occurrence.symbol, occurrence.is_array) {
-            return add_change(profile, change, place);
-        }
-    }
-    add_symbol(profile, &occurrence.symbol, occurrence.is_array, place)
-}
-
-/// The occurrences that stay, and those that changes take away.
-#[derive(Drop)]
-struct Parted {
-    kept: Vec<Occurrence>,
-    changed: Vec<Occurrence>,
-}
-
-fn part(alloc: Global, symbols: Vec<Occurrence>, changes: &[Change]) -> Result<Parted, AllocError>
-    ensures { IfOk result (λ parted. AreParted changes.now symbols.items parted.kept.items parted.changed.items) }
-{
-    let mut symbols = symbols;
-    let mut kept = Vec::new(alloc);
-    let mut changed = Vec::new(alloc);
-    while let Some(occurrence) = symbols.pop() {
-        if is_changed(changes, &occurrence.symbol, occurrence.is_array) {
-            changed.push(occurrence)?;
-        } else {
-            kept.push(occurrence)?;
-        }
-    }
-    Ok(Parted { kept, changed })
-}
-
-/// Adds what the changes put in the place of some occurrences.
-fn add_all_changed(
-    profile: &mut Profile,
-    changes: &[Change],
-    symbols: &[Occurrence],
-) -> Result<(), AllocError>
-    ensures { OnOk result (IsWithChanged changes.now profile.old profile.new symbols.now) }
-{
-    for occurrence in symbols {
-        add_changed(profile, changes, occurrence)?;
-    }
-    Ok(())
-}
-
-fn changed_profile(
-    alloc: Global,
-    profile: Profile,
-    changes: &[Change],
-) -> Result<Profile, AllocError>
-    ensures { IfOk result (λ made. IsAfter changes.now profile made) }
-{
-    let Profile {
-        nodes,
-        depth,
-        symbols,
-    } = profile;
-    let parted = part(alloc, symbols, changes)?;
-    let Parted { kept, changed } = parted;
-    let mut made = Profile {
-        nodes,
-        depth,
-        symbols: kept,
+    let root = Place {
+        count: 1,
+        above: profile.base as u64,
     };
-    add_all_changed(&mut made, changes, changed.as_slice())?;
-    Ok(made)
+    add_formula(&mut profile.counts, formula, root)
 }
 
-fn copied_symbols(alloc: Global, symbols: &[Occurrence]) -> Result<Vec<Occurrence>, AllocError>
-    ensures { IfOk result (λ copies. copies.items ≡ symbols.now) }
+/// Two profiles beside each other, of which the first has the higher base.
+fn beside(high: Profile, low: Profile) -> Result<Profile, AllocError>
+    requires { low.base ≤ high.base }
+    ensures { IfOk result (λ made. (s d t e : Weights → ℕ) → HasMeasures high s d → HasMeasures low t e → HasMeasures made (λ u. s u + t u) (λ u. max (d u) (e u))) }
 {
-    let mut copies = Vec::new(alloc);
-    for occurrence in symbols {
-        let symbol = copied(&occurrence.symbol)?;
-        copies.push(Occurrence {
-            symbol,
-            is_array: occurrence.is_array,
-            count: occurrence.count,
-            above: occurrence.above,
-        })?;
-    }
-    Ok(copies)
+    let Profile { base, counts } = high;
+    let Profile {
+        base: under,
+        counts: other,
+    } = low;
+    let by = base - under;
+    let mut other = other;
+    raise_all(&mut other, by as u64);
+    let mut counts = counts;
+    add_counts(&mut counts, &other)?;
+    Ok(Profile { base, counts })
 }
 
-/// The part of the symbols in the size.
-fn symbols_size(symbols: &[Occurrence]) -> u64
-    ensures { result ≡ saturated (sizes ones symbols.now) }
+/// Whether a profile takes another in: the one with the higher base, and of two with the same base that with more symbols.
+fn takes_in(first: &Profile, second: &Profile) -> bool
+    ensures yes { result ≡ true → second.now.base ≤ first.now.base }
+    ensures no { result ≡ false → first.now.base ≤ second.now.base }
 {
-    let mut whole = 0;
-    for occurrence in symbols {
-        whole = occurrence.count.saturating_add(whole);
+    if first.base == second.base {
+        return symbol_count(&first.counts) >= symbol_count(&second.counts);
     }
-    whole
+    first.base > second.base
 }
 
-/// The part of the symbols in the depth.
-fn symbols_depth(symbols: &[Occurrence]) -> u64
-    ensures { result ≡ saturated (depths ones symbols.now) }
+/// Two profiles beside each other.
+fn joined(first: Profile, second: Profile) -> Result<Profile, AllocError>
+    ensures { IfOk result (λ made. (s d t e : Weights → ℕ) → HasMeasures first s d → HasMeasures second t e → HasMeasures made (λ u. s u + t u) (λ u. max (d u) (e u))) }
 {
-    let mut deepest = 0;
-    for occurrence in symbols {
-        deepest = occurrence.above.saturating_add(1).max(deepest);
+    if takes_in(&first, &second) {
+        beside(first, second)
+    } else {
+        beside(second, first)
     }
-    deepest
+}
+
+/// A depth below a base.
+fn below_base(level: u64, base: u32) -> u64
+    ensures { (d : ℕ) → level ≡ saturated (base + d) → capped result ≡ capped d }
+{
+    level.saturating_sub(base as u64)
 }
 
 impl Profile {
@@ -454,15 +105,14 @@ impl Profile {
     pub fn size(&self) -> u64
         ensures { (f : AnyFormula) → IsProfile self.now f → result ≡ saturated (size_of f) }
     {
-        self.nodes
-            .saturating_add(symbols_size(self.symbols.as_slice()))
+        counted_size(&self.counts)
     }
 
-    /// The depth of the formula, or the largest u64 where it is larger.
+    /// The depth of the formula, or a number that is as large as 2^32 where it is larger.
     pub fn depth(&self) -> u64
-        ensures { (f : AnyFormula) → IsProfile self.now f → result ≡ saturated (depth_of f) }
+        ensures { (f : AnyFormula) → IsProfile self.now f → capped result ≡ capped (depth_of f) }
     {
-        self.depth.max(symbols_depth(self.symbols.as_slice()))
+        below_base(counted_depth(&self.counts), self.base)
     }
 }
 
@@ -470,21 +120,23 @@ impl Precondition for Profile {
     ghost stands = { IsProfile };
 
     fn of(alloc: Global, formula: Shared<Formula>) -> Result<Profile, AllocError> {
-        let mut profile = Profile {
-            nodes: 0,
-            depth: 0,
-            symbols: Vec::new(alloc),
+        let root = Place {
+            count: 1,
+            above: FIRST_BASE as u64,
         };
-        add_whole(&mut profile, formula.get())?;
-        Ok(profile)
+        let mut counts = no_counts(alloc);
+        add_formula(&mut counts, formula.get(), root)?;
+        Ok(Profile {
+            base: FIRST_BASE,
+            counts,
+        })
     }
 
     fn again(&self, alloc: Global) -> Result<Profile, AllocError> {
-        let symbols = copied_symbols(alloc, self.symbols.as_slice())?;
+        let counts = copied_counts(alloc, &self.counts)?;
         Ok(Profile {
-            nodes: self.nodes,
-            depth: self.depth,
-            symbols,
+            base: self.base,
+            counts,
         })
     }
 
@@ -495,20 +147,21 @@ impl Precondition for Profile {
     }
 
     fn and(self, alloc: Global, other: Profile) -> Result<Profile, AllocError> {
-        let mut profile = self;
-        add_profile(&mut profile, &other)?;
+        let mut profile = joined(self, other)?;
         add_above(&mut profile);
         Ok(profile)
     }
 
     fn implied_by(self, alloc: Global, premise: Shared<Formula>) -> Result<Profile, AllocError> {
         let mut profile = self;
-        add_whole(&mut profile, premise.get())?;
+        add_beside(&mut profile, premise.get())?;
         add_above(&mut profile);
         Ok(profile)
     }
 
     fn after(self, alloc: Global, changes: &[Change]) -> Result<Profile, AllocError> {
-        changed_profile(alloc, self, changes)
+        let Profile { base, counts } = self;
+        let counts = changed_counts(alloc, counts, changes)?;
+        Ok(Profile { base, counts })
     }
 }

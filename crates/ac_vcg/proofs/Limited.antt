@@ -4,6 +4,7 @@ use Rattle.std.proofs.lemmas.Bool.Decides.{nat_tests}
 use Rattle.ac_tree.specs.declared.limit.LimitKind.TheVariants as kind
 use Rattle.ac_tree.specs.declared.path.Pair.{Pair}
 use Rattle.ac_logic.specs.Size.{saturated}
+use Rattle.ac_profile.specs.Profile.{capped}
 use Rattle.ac_vcg.specs.declared.fault.VcgFault.TheVariants as fault
 use Rattle.ac_vcg.specs.Refusals.{is_above, refusal_if, size_refusal, depth_refusal, total_refusal, number_refusal}
 
@@ -28,8 +29,8 @@ told m l x y h e = elim (low_or_high l x) [ inl a ↦ both (above a) (above (ome
 pub same_sizes : (pair : Pair) (x y : ℕ) → saturated x ≡ saturated y → size_refusal pair x ≡ size_refusal pair y
 same_sizes pair x y h = ap (λ b. refusal_if b (fault.Size pair 200000)) (told (2 ^ 64 - 1) 200000 x y (omega arith) h)
 
-pub same_depths : (pair : Pair) (x y : ℕ) → saturated x ≡ saturated y → depth_refusal pair x ≡ depth_refusal pair y
-same_depths pair x y h = ap (λ b. refusal_if b (fault.Depth pair 1024)) (told (2 ^ 64 - 1) 1024 x y (omega arith) h)
+pub same_depths : (pair : Pair) (x y : ℕ) → capped x ≡ capped y → depth_refusal pair x ≡ depth_refusal pair y
+same_depths pair x y h = ap (λ b. refusal_if b (fault.Depth pair 1024)) (told (2 ^ 32) 1024 x y (omega arith) h)
 
 pub same_totals : (x y : ℕ) → saturated x ≡ saturated y → total_refusal x ≡ total_refusal y
 same_totals x y h = ap (λ b. refusal_if b (fault.Total 20000000)) (told (2 ^ 64 - 1) 20000000 x y (omega arith) h)

@@ -14,7 +14,7 @@ use Rattle.ac_profile.specs.declared.measure.Measure.{Measure}
 use Rattle.ac_profile.specs.declared.measure.Measure.TheVariants.{TooLarge, Known}
 use Rattle.ac_profile.specs.declared.profile.Profile.{Profile}
 use Rattle.ac_profile.specs.Measure.{IsMeasure}
-use Rattle.ac_profile.specs.Profile.{IsProfile}
+use Rattle.ac_profile.specs.Profile.{IsProfile, capped}
 use Rattle.ac_vcg.specs.Refusals.{is_above, refusal_if, or_else, size_refusal, depth_refusal, refusal_of_one, first_refusal, total_size, total_refusal, sizes_refusal, number_refusal, refusal_of_all, IsAnswered}
 use Rattle.ac_vcg.specs.Stands.{IsFor, AreFound}
 use Rattle.ac_profile.proofs.Measures.{known, still_large}
@@ -26,12 +26,12 @@ twice : (m x : ℕ) → min (min x m) m ≡ min x m
 twice m x = omega arith
 
 pub refused_by : (name : PolicyName) (x : Found Measure) (p : Profile) (c : Condition) (s d : ℕ) (r : Option VcgFault) → x.goal ≡ Known p → IsFor IsMeasure name x c → ((f : Formula) → IsProfile p f → s ≡ saturated (size_of f)) →
-    ((f : Formula) → IsProfile p f → d ≡ saturated (depth_of f)) → r ≡ or_else (size_refusal x.pair s) (depth_refusal x.pair d) → r ≡ refusal_of_one c
+    ((f : Formula) → IsProfile p f → capped d ≡ capped (depth_of f)) → r ≡ or_else (size_refusal x.pair s) (depth_refusal x.pair d) → r ≡ refusal_of_one c
 refused_by name x p c s d r g h k l e =
     let profile : IsProfile p c.formula = known x.goal p c.formula g h.2 in
     let here : or_else (size_refusal x.pair s) (depth_refusal x.pair d) ≡ or_else (size_refusal x.pair (size_of c.formula)) (depth_refusal x.pair (depth_of c.formula)) =
     ap (λ (o : Option VcgFault). or_else o (depth_refusal x.pair d)) (same_sizes x.pair s (size_of c.formula) (ap (λ n. saturated n) (k c.formula profile) ∙ twice (2 ^ 64 - 1) (size_of c.formula)))
-    ∙ ap (λ (o : Option VcgFault). or_else (size_refusal x.pair (size_of c.formula)) o) (same_depths x.pair d (depth_of c.formula) (ap (λ n. saturated n) (l c.formula profile) ∙ twice (2 ^ 64 - 1) (depth_of c.formula))) in
+    ∙ ap (λ (o : Option VcgFault). or_else (size_refusal x.pair (size_of c.formula)) o) (same_depths x.pair d (depth_of c.formula) (l c.formula profile)) in
     e ∙ (here ∙ ap (λ (p : Pair). or_else (size_refusal p (size_of c.formula)) (depth_refusal p (depth_of c.formula))) (sym h.1))
 
 -- what is known to be too large is refused for its size

@@ -1,6 +1,0 @@
-use Rattle.std.proofs.Common.{◌≡◌}
-use Rattle.ac_profile.proofs.Raised.{raised_to}
-use Rattle.ac_profile.proofs.profile.add_above.Given as goal
-
-abbrev pub invariant-loop-occurrence : goal.invariant-loop-occurrence
-invariant-loop-occurrence l = l.occurrence-items ≡ raised_to l.occurrence-index l.initial.occurrence-items
