@@ -16,7 +16,7 @@ IsNoWord Letter = ⊥
 IsNoWord Digit = ⊥
 IsNoWord _ = Unit {0}
 
--- at this place begins this piece, the longest one, and it is within the limits
+-- at this place begins this piece, and it is within the limits: up to its end the bytes are at most one token
 pub record IsPiece (bytes : List ℕ) (at : ℕ) (piece : Piece) : Type 0 where
   pub cut : Lexes at (drop at bytes) (option_to_list piece.token) piece.end (drop piece.end bytes)
   pub ahead : at < piece.end

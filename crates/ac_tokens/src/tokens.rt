@@ -52,7 +52,7 @@ fn push_token(tokens: &mut Vec<Token>, token: Option<Token>) -> Result<(), Token
     Ok(())
 }
 
-/// The longest piece at a place, or why nothing within the limits begins there.
+/// The piece at a place, whose bytes are at most one token, or why nothing within the limits begins there.
 pub fn piece_at(alloc: Global, bytes: &[u8], at: usize) -> Result<Piece, TokenFault>
     requires within { at < length bytes.now }
     requires short { length bytes.now < 2 ^ 32 }
