@@ -7,7 +7,7 @@ use Rattle.ac_logic.specs.declared.condition.Condition.{Condition}
 use Rattle.ac_proof.specs.declared.certificate.CertPart.{CertPart}
 use Rattle.ac_proof.specs.declared.certificate.ProvedCondition.{ProvedCondition}
 use Rattle.ac_kernel.specs.declared.refused.Refused.{Refused}
-use Rattle.ac_kernel.specs.declared.refused.Refused.TheVariants.{Annotation, Limit, Missing, Differs, Step, Extra, OutOfMemory}
+use Rattle.ac_kernel.specs.declared.refused.Refused.TheVariants.{Policies, Annotation, Limit, Missing, Differs, Step, Extra, OutOfMemory}
 use Rattle.ac_kernel.specs.Entries.{IsFirstRefused}
 use Rattle.ac_kernel.specs.Refusals.{AreWithinLimits, AreWellFormed, IsLimitRefusal, IsEntriesRefusal, IsRefusal}
 
@@ -17,6 +17,7 @@ passed_on P (Ok x) e h k = tt
 passed_on P (Err y) e h k = subst P (sym h) k
 
 first_reason : (conditions : List Condition) (part : CertPart) (r : Refused) → IsFirstRefused conditions part.conditions r → IsEntriesRefusal conditions part r
+first_reason conditions part Policies h = absurd h.4
 first_reason conditions part (Annotation policy index) h = absurd h.4
 first_reason conditions part (Limit which) h = absurd h.4
 first_reason conditions part (Missing policy pair) h = h
@@ -31,6 +32,7 @@ entries_refused conditions part entries res r e told h = passed_on (IsEntriesRef
 
 module _ (p : Program) (part : CertPart) (conditions : List Condition) where
   limit_reason : (r : Refused) → AreWellFormed p part conditions → IsLimitRefusal conditions r → IsRefusal p part conditions r
+  limit_reason Policies formed h = absurd h
   limit_reason (Annotation policy index) formed h = absurd h
   limit_reason (Limit which) formed h = (formed, h)
   limit_reason (Missing policy pair) formed h = absurd h
@@ -40,6 +42,7 @@ module _ (p : Program) (part : CertPart) (conditions : List Condition) where
   limit_reason OutOfMemory formed h = tt
 
   entries_reason : (r : Refused) → AreWellFormed p part conditions → AreWithinLimits conditions → IsEntriesRefusal conditions part r → IsRefusal p part conditions r
+  entries_reason Policies formed within h = absurd h
   entries_reason (Annotation policy index) formed within h = absurd h
   entries_reason (Limit which) formed within h = absurd h
   entries_reason (Missing policy pair) formed within h = (formed, within, h)

@@ -10,7 +10,7 @@ use Rattle.ac_vcg.specs.declared.fault.VcgFault.{VcgFault}
 use Rattle.ac_vcg.specs.declared.fault.VcgFault.TheVariants as vcg
 use Rattle.ac_vcg.specs.Refusals.{refusal_of_all}
 use Rattle.ac_kernel.specs.declared.refused.Refused.{Refused}
-use Rattle.ac_kernel.specs.declared.refused.Refused.TheVariants.{Annotation, Limit, Missing, Differs, Step, Extra, OutOfMemory}
+use Rattle.ac_kernel.specs.declared.refused.Refused.TheVariants.{Policies, Annotation, Limit, Missing, Differs, Step, Extra, OutOfMemory}
 use Rattle.ac_kernel.specs.Entries.{AreShown, IsFirstRefused}
 use Rattle.ac_kernel.specs.WellFormed.{IsWellFormed, IsFirstIllFormed}
 
@@ -69,6 +69,7 @@ module _ (p : Program) (part : CertPart) (conditions : List Condition) where
   -- Why the part is refused: first the annotations are looked at, then the limits, then each condition with its entry, which
   -- is missing, differs or has a bad step, and last the entries that are left over.
   abbrev pub IsRefusal : Refused → Type 0
+  IsRefusal Policies = ⊥
   IsRefusal (Annotation policy index) = IsAnnotationRefusal p part (Annotation policy index)
   IsRefusal (Limit which) = AreWellFormed × IsLimitRefusal conditions (Limit which)
   IsRefusal (Missing policy pair) = AreWellFormed × AreWithinLimits conditions × IsEntriesRefusal conditions part (Missing policy pair)

@@ -19,5 +19,6 @@ mod verify;
 
 pub use annotations::first_ill_formed;
 pub use indexes::has_small_indexes;
+pub use pairs::is_same_policy;
 pub use refused::Refused;
 pub use verify::verify_part;

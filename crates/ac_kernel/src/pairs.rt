@@ -3,6 +3,7 @@ ghost use Rattle.std.specs.Prelude.{◌≡◌, ◌↔◌, IsTrue};
 
 use ac_tree::{Cut, Pair, PolicyName, Target};
 
+/// Whether both are the same policy.
 pub fn is_same_policy(a: PolicyName, b: PolicyName) -> bool
     ensures { IsTrue result ↔ (a ≡ b) }
 {
@@ -14,6 +15,7 @@ pub fn is_same_policy(a: PolicyName, b: PolicyName) -> bool
     }
 }
 
+/// Whether both lead from the same cut to the same target.
 pub fn is_same_pair(a: Pair, b: Pair) -> bool
     ensures { IsTrue result ↔ (a ≡ b) }
 {

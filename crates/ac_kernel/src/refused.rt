@@ -1,4 +1,4 @@
-//! Why a part of a certificate is refused.
+//! Why a certificate, or a part of one, is refused.
 ghost use Rattle.std.specs.Prelude.{◌≡◌};
 ghost use Rattle.ac_kernel.specs.declared.refused.Refused.TheVariants.{OutOfMemory};
 
@@ -6,9 +6,11 @@ use ac_tree::{LimitKind, Pair, PolicyName};
 use sqlite_items::Items;
 use std::alloc::AllocError;
 
-/// Why a part of a certificate is refused, in the order in which that is looked for. Places are counted from 0.
+/// Why a certificate, or a part of one, is refused, in the order in which that is looked for. Places are counted from 0.
 #[derive(Drop)]
 pub enum Refused {
+    /// The parts are not those of the selected policies, in their order. A part alone is never refused so.
+    Policies,
     /// The first annotation that is not well formed.
     Annotation {
         policy: PolicyName,
