@@ -1,5 +1,5 @@
 //! What a line asks for.
-use ac_answers_kernel::{condition_lists, parts};
+use ac_answers_kernel::{certificates, condition_lists, parts};
 use ac_answers_language::{flow, programs, runs};
 use ac_answers_logic::{differences, formulas, ground_forms, linear, proof_trees};
 use ac_answers_policies::policies;
@@ -51,6 +51,7 @@ fn answer_of(alloc: Global, ask: &Value) -> Answer {
         "known" => policies::known(alloc, ask),
         "conditions" => condition_lists::conditions(alloc, ask),
         "verify_part" => parts::verify_part(alloc, ask),
+        "verify" => certificates::verify(alloc, ask),
         _ => Ok(None),
     }
 }

@@ -2,6 +2,7 @@
 #![tactic(auto)]
 
 mod annotations;
+pub mod certificates;
 pub mod condition_lists;
 mod part_reader;
 pub mod parts;

@@ -1,4 +1,4 @@
-//! Parts of certificates in asks.
+//! Certificates and their parts in asks.
 use crate::annotations::annotations_of;
 use crate::policy_words::policy_named;
 use ac_answers_language::flow::{cut_of, target_of};
@@ -6,7 +6,7 @@ use ac_answers_logic::formulas::formula;
 use ac_answers_logic::proof_trees::last_step;
 use ac_asks::{list_at, text_at};
 use ac_logic::{Annotation, Condition};
-use ac_proof::{CertPart, ProofTree, ProvedCondition};
+use ac_proof::{CertPart, Certificate, ProofTree, ProvedCondition};
 use ac_tree::{Pair, PolicyName};
 use serde_json::Value;
 use sqlite_items::Items;
@@ -14,9 +14,39 @@ use std::alloc::{AllocError, Global};
 
 /// The part of an ask.
 pub fn part_at(alloc: Global, ask: &Value) -> anyhow::Result<Option<CertPart>> {
-    let Some(asked) = ask.get("part") else {
+    match ask.get("part") {
+        Some(asked) => part_of(alloc, asked),
+        None => Ok(None),
+    }
+}
+
+/// The certificate of an ask: the list of its parts.
+pub fn certificate_at(alloc: Global, ask: &Value) -> anyhow::Result<Option<Certificate>> {
+    let Some(list) = list_at(ask, "certificate") else {
         return Ok(None);
     };
+    let mut parts = Items::new(alloc);
+    let are_all = add_parts(alloc, list, &mut parts);
+    if let Ok(true) = are_all {
+        return Ok(Some(Certificate { parts }));
+    }
+    drop(parts);
+    are_all?;
+    Ok(None)
+}
+
+/// Adds the parts of a list, and tells whether each is one.
+fn add_parts(alloc: Global, list: &[Value], parts: &mut Items<CertPart>) -> anyhow::Result<bool> {
+    for value in list.iter() {
+        match part_of(alloc, value)? {
+            Some(part) => parts.push(part)?,
+            None => return Ok(false),
+        }
+    }
+    Ok(true)
+}
+
+fn part_of(alloc: Global, asked: &Value) -> anyhow::Result<Option<CertPart>> {
     let (Some(word), Some(stated), Some(listed)) = (
         text_at(asked, "policy"),
         list_at(asked, "annotations"),

@@ -59,8 +59,10 @@ fn verdict(alloc: Global, program: &Program, policy: &AnyPolicy, part: &CertPart
     }
 }
 
-fn refusal(alloc: Global, refused: Refused) -> Answer {
+/// The answer that tells why a certificate, or a part of one, is refused.
+pub(crate) fn refusal(alloc: Global, refused: Refused) -> Answer {
     match refused {
+        Refused::Policies => told(alloc, "policies", Value::from(true)),
         Refused::Annotation { policy, index } => {
             told_of(alloc, policy, "annotation", Value::from(index))
         }

@@ -203,6 +203,7 @@ fn judged<R: Abort>(
 fn refusal_text(alloc: Global, refused: Refused) -> Result<String, AllocError> {
     let mut text = String::new(alloc);
     match refused {
+        Refused::Policies => text.push_str("policies")?,
         Refused::Annotation { index, .. } => {
             text.push_str(format!(in alloc; "annotation {index}")?.as_str())?
         }
