@@ -5,11 +5,11 @@ use crate::part_reader::certificate_at;
 use crate::parts::refusal;
 use ac_answers_policies::policies::program_at;
 use ac_asks::{Answer, text_at, told};
-use ac_kernel::has_small_indexes;
 use ac_policy_set::PolicySet;
 use ac_policy_table::{PolicyTable, TableFault, read_policy_table};
 use ac_proof::Certificate;
 use ac_tree::Program;
+use ac_verify::have_small_indexes;
 use serde_json::Value;
 use sqlite_items::Items;
 use std::alloc::{AllocError, Global};
@@ -49,10 +49,8 @@ fn verified_by(alloc: Global, program: &Program, set: &PolicySet, ask: &Value) -
 fn verdict(alloc: Global, program: &Program, set: &PolicySet, certificate: &Certificate) -> Answer
     requires { KeepsStaticRules program.now }
 {
-    for part in certificate.parts.as_slice() {
-        if !has_small_indexes(part) {
-            return Ok(None);
-        }
+    if !have_small_indexes(certificate) {
+        return Ok(None);
     }
     match ac_verify::verify(alloc, program, set, certificate) {
         Ok(verified) => told(alloc, "ok", counts(alloc, verified.counts.as_slice())?),

@@ -8,4 +8,4 @@
 
 mod verified;
 
-pub use verified::{Verified, verify};
+pub use verified::{Verified, have_small_indexes, verify};

@@ -6,7 +6,7 @@ ghost use Rattle.ac_policy_set.specs.Selected.{policies_of};
 ghost use Rattle.ac_kernel.specs.Refusals.{HasSmallIndexes, IsRefusal};
 ghost use Rattle.ac_verify.specs.Certificates.{Keeps, part_policies, IsAcceptedPart, IsFirstRefusedPart, IsAcceptedCertificate, IsCertificateRefusal, condition_count, conditions_for};
 
-use ac_kernel::{Refused, is_same_policy, verify_part};
+use ac_kernel::{Refused, has_small_indexes, is_same_policy, verify_part};
 use ac_policy_set::{PolicySet, any_policy};
 use ac_proof::{CertPart, Certificate};
 use ac_tree::{PolicyName, Program};
@@ -104,4 +104,15 @@ fn have_policies(parts: &[CertPart], policies: &[PolicyName]) -> bool
         }
     }
     true
+}
+
+/// Whether each part has small indexes, which `verify` asks for.
+pub fn have_small_indexes(certificate: &Certificate) -> bool
+    ensures { IsTrue result ↔ All HasSmallIndexes certificate.now.parts }
+{
+    certificate
+        .parts
+        .as_slice()
+        .iter()
+        .all(|part| has_small_indexes(part))
 }
